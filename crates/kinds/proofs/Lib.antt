@@ -1,0 +1,5 @@
+pub mod Told
+pub mod Factors
+pub mod Light
+pub mod BarLaws
+pub mod ToteLaws
