@@ -15,6 +15,7 @@ use Rattle.std.proofs.shelf.Sums.{sumBy-push}
 use Rattle.std.proofs.shelf.Elements.{all-push, all-weaker}
 use Rattle.std.proofs.shelf.Tests.{cases-lt, cases-bool, lt-ltb, le-ltb, or-right, cond-true, cond-false}
 use Rattle.std.proofs.shelf.Ways.{tells}
+use Rattle.kinds.specs.declared.bars.Bars.{Bars}
 use Rattle.kinds.specs.declared.piece.Piece.{Piece}
 use Rattle.refusals.specs.declared.PieceRefusal.the-variants.{Finish, First, Second}
 use Rattle.kinds.specs.Kind.{Meaning, Lawful, Admitted, ClassOf, Built, one-more, none-yet, level, weights, full-with, fits-after, told, between}
@@ -287,8 +288,9 @@ module _ {C k L u p : ℕ} (known : Measures C k L u p) where
         is-full k (M .class q) 1 (is .0) (omega (arith, e, known .figs .many)) (omega (arith, e));
   }
 
-pub measures : (C k : ℕ) → 1 ≤ C → C ≤ 1000000 → 2 ≤ k → k ≤ 12 → Measures C k (multiple k) (unit-factor k) (ceiling-factor k)
-measures C k low high many few = record { low = low; high = high; figs = figures k many few }
+-- what a bar's own invariant says
+pub measures : (b : Bars) → Measures (b .capacity) (b .k) (multiple (b .k)) (unit-factor (b .k)) (ceiling-factor (b .k))
+measures b = record { low = b .some; high = b .most; figs = figures (b .k) (b .many) (b .few) }
 
-pub bars-lawful : (C k : ℕ) → 1 ≤ C → C ≤ 1000000 → 2 ≤ k → k ≤ 12 → Lawful (bars C k)
-bars-lawful C k low high many few = bars-by-lawful (measures C k low high many few)
+pub bars-lawful : (b : Bars) → Lawful (bars (b .capacity) (b .k))
+bars-lawful b = bars-by-lawful (measures b)

@@ -13,6 +13,7 @@ use Rattle.std.proofs.shelf.Sums.{sumBy-cons}
 use Rattle.std.proofs.shelf.Tests.{cases-lt, lt-ltb, le-ltb, cond-true, cond-false}
 use Rattle.std.proofs.shelf.Ways.{tells}
 use Rattle.kinds.specs.declared.piece.Piece.{Piece}
+use Rattle.kinds.specs.declared.totes.Totes.{Totes}
 use Rattle.kinds.specs.Kind.{Meaning, Lawful, Admitted, ClassOf, Built, one-more, none-yet, level, weights, full-with, fits-after, told, between}
 use Rattle.kinds.specs.Bars.{bars-by}
 use Rattle.kinds.specs.Totes.{totes-by, totes}
@@ -187,5 +188,5 @@ module _ {C k L u p K : ℕ} (known : Measures C k L u p) (room : k ≤ K) (few 
         is-full C k K (B .class q) 1 0 (is .0) (omega (arith, e, known .figs .many)) (omega (arith, e));
   }
 
-pub totes-lawful : (C k K : ℕ) → 1 ≤ C → C ≤ 1000000 → 2 ≤ k → k ≤ 12 → k ≤ K → K ≤ 50 → Lawful (totes C k K)
-totes-lawful C k K low high many few room most = totes-by-lawful (measures C k low high many few) room most
+pub totes-lawful : (t : Totes) → Lawful (totes (t .bars .capacity) (t .bars .k) (t .limit))
+totes-lawful t = totes-by-lawful (measures (t .bars)) (t .many) (t .few)

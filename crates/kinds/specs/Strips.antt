@@ -24,7 +24,7 @@ rank-from zero g b = g
 rank-from (suc n) g b = cond (leb b (2 ^ g)) g (rank-from n (g + 1) b)
 
 -- the least g with 2 ^ g at least b, for a height of at most 4096
-abbrev pub rank : ℕ → ℕ
+unfoldable pub rank : ℕ → ℕ
 rank b = rank-from 12 0 b
 
 -- narrow classes are 1 to 13, wide ones 14 to 26

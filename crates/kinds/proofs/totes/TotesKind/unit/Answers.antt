@@ -7,5 +7,5 @@ use Rattle.kinds.proofs.totes.TotesKind.unit.Needs as need
 pub mul-result : need.mul-result
 mul-result c =
     let t = c .args .self .now in
-    let most : c .unit .result ≤ 304920 * 1000000 = omega (arith, c .unit .ensures, unit-most (measures (t .bars .capacity) (t .bars .k) (t .bars .some) (t .bars .most) (t .bars .many) (t .bars .few))) in
+    let most : c .unit .result ≤ 304920 * 1000000 = omega (arith, c .unit .ensures, unit-most (measures (t .bars))) in
     omega (arith, mul-le-mul most (t .few))
