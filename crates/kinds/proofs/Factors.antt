@@ -8,7 +8,7 @@ use native.Mathlib.Omega.{arith}
 use lib.Dec.{eqb, leb}
 use lib.ListN.{getD}
 use Rattle.std.proofs.shelf.Tests.{leb-true, eqb-true, eq-eqb, and-parts, and-from, or-cases, or-left, or-right, not-true, both-ways, cases-eq, cases-lt}
-use Rattle.kinds.specs.Figures.{multiple, unit-factor, ceiling-factor}
+use Rattle.kinds.specs.Figures.{multiple, listed-multiples, unit-factor, ceiling-factor}
 
 -- a test of each number below n
 abbrev every : (ℕ → Bool) → ℕ → Bool
@@ -91,12 +91,8 @@ multiple-least k many few n s h =
       | inr l ↦ l
     ]
 
--- the table of L, from k = 2 on
-abbrev table : List ℕ
-table = 1 ∷ 2 ∷ 6 ∷ 12 ∷ 60 ∷ 60 ∷ 420 ∷ 840 ∷ 2520 ∷ 2520 ∷ 27720 ∷ []
-
-pub multiple-table : (k : ℕ) → 2 ≤ k → k ≤ 12 → getD table (k - 2) 0 ≡ multiple k
-multiple-table k many few = eqb-true _ _ (for-each (λ n. eqb (getD table (n - 2) 0) (multiple n)) refl k many few)
+pub multiple-listed : (k : ℕ) → 2 ≤ k → k ≤ 12 → getD listed-multiples (k - 2) 0 ≡ multiple k
+multiple-listed k many few = eqb-true _ _ (for-each (λ n. eqb (getD listed-multiples (n - 2) 0) (multiple n)) refl k many few)
 
 pub multiple-most : (k : ℕ) → 2 ≤ k → k ≤ 12 → multiple k ≤ 27720
 multiple-most = le-each multiple (λ n. 27720) refl

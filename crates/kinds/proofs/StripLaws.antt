@@ -60,19 +60,19 @@ module _ (C : ℕ) (low : 1 ≤ C) (high : C ≤ 1000000) where
       let f : 2 ^ g ≤ 2 * p .second = rank-half (p .second) (z .high-some) in
       let i : c ≡ g + cond (leb (2 * p .first) C) 1 14 = sym e ∙ ap (λ o. told o (g + cond (leb (2 * p .first) C) 1 14) 0) a in
       elim (cases-bool (leb (2 * p .first) C)) [
-        inl n ↦
-          let j : c ≡ g + 1 = i ∙ ap (λ b. g + cond b 1 14) n in
-          let nc : narrow c ≡ true = is-between 1 13 c (omega arith) (omega arith) in
-          let k : c - 1 ≡ g = omega arith in
-          let r : row-height c ≡ 2 ^ g = ap (λ b. cond b (2 ^ (c - 1)) (cond (wide c) (2 ^ (c - 14)) 0)) nc ∙ ap (λ x. 2 ^ x) k in
-          record { is-class = (omega arith, omega arith); tall = omega arith; flat = omega arith; sides = inl (nc, leb-true (2 * p .first) C n) }
-      | inr n ↦
-          let j : c ≡ g + 14 = i ∙ ap (λ b. g + cond b 1 14) n in
-          let nc : narrow c ≡ false = above 1 13 c (omega arith) in
-          let wc : wide c ≡ true = is-between 14 26 c (omega arith) (omega arith) in
-          let k : c - 14 ≡ g = omega arith in
-          let r : row-height c ≡ 2 ^ g = ap (λ b. cond b (2 ^ (c - 1)) (cond (wide c) (2 ^ (c - 14)) 0)) nc ∙ ap (λ b. cond b (2 ^ (c - 14)) 0) wc ∙ ap (λ x. 2 ^ x) k in
-          record { is-class = (omega arith, omega arith); tall = omega arith; flat = omega arith; sides = inr (nc, wc, leb-false (2 * p .first) C n) }
+        | inl n ↦
+            let j : c ≡ g + 1 = i ∙ ap (λ b. g + cond b 1 14) n in
+            let nc : narrow c ≡ true = is-between 1 13 c (omega arith) (omega arith) in
+            let k : c - 1 ≡ g = omega arith in
+            let r : row-height c ≡ 2 ^ g = ap (λ b. cond b (2 ^ (c - 1)) (cond (wide c) (2 ^ (c - 14)) 0)) nc ∙ ap (λ x. 2 ^ x) k in
+            record { is-class = (omega arith, omega arith); tall = omega arith; flat = omega arith; sides = inl (nc, leb-true (2 * p .first) C n) }
+        | inr n ↦
+            let j : c ≡ g + 14 = i ∙ ap (λ b. g + cond b 1 14) n in
+            let nc : narrow c ≡ false = above 1 13 c (omega arith) in
+            let wc : wide c ≡ true = is-between 14 26 c (omega arith) (omega arith) in
+            let k : c - 14 ≡ g = omega arith in
+            let r : row-height c ≡ 2 ^ g = ap (λ b. cond b (2 ^ (c - 1)) (cond (wide c) (2 ^ (c - 14)) 0)) nc ∙ ap (λ b. cond b (2 ^ (c - 14)) 0) wc ∙ ap (λ x. 2 ^ x) k in
+            record { is-class = (omega arith, omega arith); tall = omega arith; flat = omega arith; sides = inr (nc, wc, leb-false (2 * p .first) C n) }
       ]
 
   -- what a row so built holds
@@ -91,11 +91,11 @@ module _ (C : ℕ) (low : 1 ≤ C) (high : C ≤ 1000000) where
   level-ok {c} (one-more {ps = ps} {p = p} b a e nf ft) =
       let fit = sym (fit-is c (length ps) (level (strips C) ps) p a) ∙ ft in
       elim (row c p a e .sides) [
-        inl n ↦ omega (arith, level-push ps p a, leb-true (level (strips C) ps + p .first) C (sym (ap (λ b. cond b (leb (level (strips C) ps + p .first) C) (wide c && eqb (length ps) 0)) (n .0)) ∙ fit))
-      | inr w ↦
-          let nil : length ps ≡ 0 = eqb-true (length ps) 0 (and-parts (wide c) (eqb (length ps) 0) (sym (ap (λ b. cond b (leb (level (strips C) ps + p .first) C) (wide c && eqb (length ps) 0)) (w .0)) ∙ fit) .1) in
-          let none : level (strips C) ps ≡ 0 = ap (level (strips C)) (nil-from-length ps nil) in
-          omega (arith, level-push ps p a, sized p a .wide-most)
+        | inl n ↦ omega (arith, level-push ps p a, leb-true (level (strips C) ps + p .first) C (sym (ap (λ b. cond b (leb (level (strips C) ps + p .first) C) (wide c && eqb (length ps) 0)) (n .0)) ∙ fit))
+        | inr w ↦
+            let nil : length ps ≡ 0 = eqb-true (length ps) 0 (and-parts (wide c) (eqb (length ps) 0) (sym (ap (λ b. cond b (leb (level (strips C) ps + p .first) C) (wide c && eqb (length ps) 0)) (w .0)) ∙ fit) .1) in
+            let none : level (strips C) ps ≡ 0 = ap (level (strips C)) (nil-from-length ps nil) in
+            omega (arith, level-push ps p a, sized p a .wide-most)
       ]
 
   area-ok : {c : ℕ} {ps : List Piece} → Built (strips C) c ps → sumBy area ps ≤ level (strips C) ps * row-height c
@@ -112,8 +112,8 @@ module _ (C : ℕ) (low : 1 ≤ C) (high : C ≤ 1000000) where
   wide-heavy none-yet w h = absurd (omega arith)
   wide-heavy {c} (one-more {ps = ps} {p = p} b a e nf ft) w h =
       elim (row c p a e .sides) [
-        inl n ↦ absurd (true≢false (sym (n .0) ∙ w))
-      | inr k ↦ omega (arith, weights-push ps p a, quarter (p .first) (p .second) C (row-height c) (omega (arith, k .2)) (row c p a e .flat))
+        | inl n ↦ absurd (true≢false (sym (n .0) ∙ w))
+        | inr k ↦ omega (arith, weights-push ps p a, quarter (p .first) (p .second) C (row-height c) (omega (arith, k .2)) (row c p a e .flat))
       ]
 
   all-ok : {c : ℕ} {ps : List Piece} → Built (strips C) c ps → All (λ p. (strip-refusal C p ≡ None) × (p .second ≤ row-height c)) ps
@@ -129,8 +129,8 @@ module _ (C : ℕ) (low : 1 ≤ C) (high : C ≤ 1000000) where
   class-sides : (c : ℕ) → ClassOf (strips C) c → (narrow c ≡ true) ⊎ ((narrow c ≡ false) × (wide c ≡ true))
   class-sides c k =
       elim (cases-lt 13 c) [
-        inl l ↦ inr (above 1 13 c l, is-between 14 26 c l (k .1))
-      | inr l ↦ inl (is-between 1 13 c (k .0) l)
+        | inl l ↦ inr (above 1 13 c l, is-between 14 26 c l (k .1))
+        | inr l ↦ inl (is-between 1 13 c (k .0) l)
       ]
 
   height-narrow : (c : ℕ) → narrow c ≡ true → row-height c ≡ 2 ^ (c - 1)
@@ -142,14 +142,15 @@ module _ (C : ℕ) (low : 1 ≤ C) (high : C ≤ 1000000) where
   costs : (c : ℕ) → ClassOf (strips C) c → (1 ≤ row-height c) × (C * row-height c ≤ 2 ^ 44)
   costs c k =
       elim (class-sides c k) [
-        inl n ↦ subst (λ h. (1 ≤ h) × (C * h ≤ 2 ^ 44)) (sym (height-narrow c n)) (pow-range (c - 1) (omega (arith, in-narrow c n)))
-      | inr w ↦ subst (λ h. (1 ≤ h) × (C * h ≤ 2 ^ 44)) (sym (height-wide c (w .0) (w .1))) (pow-range (c - 14) (omega (arith, k .1)))
+        | inl n ↦ subst (λ h. (1 ≤ h) × (C * h ≤ 2 ^ 44)) (sym (height-narrow c n)) (pow-range (c - 1) (omega (arith, in-narrow c n)))
+        | inr w ↦ subst (λ h. (1 ≤ h) × (C * h ≤ 2 ^ 44)) (sym (height-wide c (w .0) (w .1))) (pow-range (c - 14) (omega (arith, k .1)))
       ]
 
   no-sides : (c : ℕ) → (ClassOf (strips C) c → ⊥) → (narrow c ≡ false) × (wide c ≡ false)
-  no-sides c h =
-      (elim (cases-bool (narrow c)) [ inl e ↦ let b = and-parts (leb 1 c) (leb c 13) e in absurd (h (leb-true 1 c (b .0), omega (arith, leb-true c 13 (b .1)))) | inr e ↦ e ],
-       elim (cases-bool (wide c)) [ inl e ↦ let b = and-parts (leb 14 c) (leb c 26) e in absurd (h (omega (arith, leb-true 14 c (b .0)), leb-true c 26 (b .1))) | inr e ↦ e ])
+  no-sides c h = (
+    elim (cases-bool (narrow c)) [ inl e ↦ let b = and-parts (leb 1 c) (leb c 13) e in absurd (h (leb-true 1 c (b .0), omega (arith, leb-true c 13 (b .1)))) | inr e ↦ e ],
+    elim (cases-bool (wide c)) [ inl e ↦ let b = and-parts (leb 14 c) (leb c 26) e in absurd (h (omega (arith, leb-true 14 c (b .0)), leb-true c 26 (b .1))) | inr e ↦ e ],
+  )
 
   all-admitted : (h : ℕ) (ps : List Piece) → All (λ p. (strip-refusal C p ≡ None) × (p .second ≤ h)) ps → All (Admitted (strips C)) ps
   all-admitted h ps a = all-weaker _ _ (λ p k. k .0) ps a
@@ -162,14 +163,14 @@ module _ (C : ℕ) (low : 1 ≤ C) (high : C ≤ 1000000) where
   unfit c ps p b a e f =
       let un = sym (fit-is c (length ps) (level (strips C) ps) p a) ∙ f in
       elim (row c p a e .sides) [
-        inl n ↦
-          let over : C < level (strips C) ps + p .first = leb-false (level (strips C) ps + p .first) C (sym (ap (λ b. cond b (leb (level (strips C) ps + p .first) C) (wide c && eqb (length ps) 0)) (n .0)) ∙ un) in
-          let half : C ≤ 2 * level (strips C) ps = omega (arith, n .1) in
-          omega (arith, heavy-ok b, mul-le-mul-right (row-height c) half, mul-assoc 2 (level (strips C) ps) (row-height c))
-      | inr w ↦
-          let some : eqb (length ps) 0 ≡ false = sym (ap (λ b. b && eqb (length ps) 0) (w .1)) ∙ sym (ap (λ b. cond b (leb (level (strips C) ps + p .first) C) (wide c && eqb (length ps) 0)) (w .0)) ∙ un in
-          let ne : length ps ≡ 0 → ⊥ = eqb-false (length ps) 0 some in
-          wide-heavy b (w .0) (omega arith)
+        | inl n ↦
+            let over : C < level (strips C) ps + p .first = leb-false (level (strips C) ps + p .first) C (sym (ap (λ b. cond b (leb (level (strips C) ps + p .first) C) (wide c && eqb (length ps) 0)) (n .0)) ∙ un) in
+            let half : C ≤ 2 * level (strips C) ps = omega (arith, n .1) in
+            omega (arith, heavy-ok b, mul-le-mul-right (row-height c) half, mul-assoc 2 (level (strips C) ps) (row-height c))
+        | inr w ↦
+            let some : eqb (length ps) 0 ≡ false = sym (ap (λ b. b && eqb (length ps) 0) (w .1)) ∙ sym (ap (λ b. cond b (leb (level (strips C) ps + p .first) C) (wide c && eqb (length ps) 0)) (w .0)) ∙ un in
+            let ne : length ps ≡ 0 → ⊥ = eqb-false (length ps) 0 some in
+            wide-heavy b (w .0) (omega arith)
       ]
 
   pub strips-lawful : Lawful (strips C)
@@ -188,23 +189,23 @@ module _ (C : ℕ) (low : 1 ≤ C) (high : C ≤ 1000000) where
     ceiling-range = omega arith;
     standing-none-or-cost = λ c k. elim (class-sides c k) [ inl n ↦ inr (rw n) | inr w ↦ inl (rw (w .0)) ];
     empty-takes = λ p a.
-      let c : ℕ = strips C .class p in
-      fit-is c 0 0 p a ∙ elim (row c p a refl .sides) [
-        inl n ↦ ap (λ b. cond b (leb (0 + p .first) C) (wide c && eqb 0 0)) (n .0) ∙ le-leb (0 + p .first) C (omega (arith, sized p a .wide-most))
-      | inr w ↦ ap (λ b. cond b (leb (0 + p .first) C) (wide c && eqb 0 0)) (w .0) ∙ ap (λ b. b && true) (w .1)
-      ];
+        let c : ℕ = strips C .class p in
+        fit-is c 0 0 p a ∙ elim (row c p a refl .sides) [
+          | inl n ↦ ap (λ b. cond b (leb (0 + p .first) C) (wide c && eqb 0 0)) (n .0) ∙ le-leb (0 + p .first) C (omega (arith, sized p a .wide-most))
+          | inr w ↦ ap (λ b. cond b (leb (0 + p .first) C) (wide c && eqb 0 0)) (w .0) ∙ ap (λ b. b && true) (w .1)
+        ];
     empty-not-full = λ c k. and-right (wide c) (leb 1 0) refl;
     built-allowed = λ c ps some b. ((all-ok b, omega (arith, area-ok b, mul-le-mul-right (row-height c) (level-ok b))), omega (arith, level-ok b));
     full-weighs-enough = λ c ps b f.
-      let k = and-parts (wide c) (leb 1 (length ps)) f in
-      wide-heavy b (and-right _ _ (lt-leb c 13 (leb-true 14 c (and-parts (leb 14 c) (leb c 26) (k .0) .0)))) (leb-true 1 (length ps) (k .1));
+        let k = and-parts (wide c) (leb 1 (length ps)) f in
+        wide-heavy b (and-right _ _ (lt-leb c 13 (leb-true 14 c (and-parts (leb 14 c) (leb c 26) (k .0) .0)))) (leb-true 1 (length ps) (k .1));
     unfit-weighs-enough = unfit;
     allowed-admitted = λ ps h l a. all-admitted h ps (a .0);
     allowed-weighs-at-most = λ ps h l a. omega (arith, weights-area ps (all-admitted h ps (a .0)), a .1, mul-assoc 4 C h);
     full-after-first = λ p a z.
-      let c : ℕ = strips C .class p in
-      elim (row c p a refl .sides) [
-        inl n ↦ absurd (let e : row-height c ≡ 0 = sym (ap (λ b. cond b (row-height c) 0) (n .0)) ∙ z in omega (arith, costs c (row c p a refl .is-class) .0))
-      | inr w ↦ ap (λ b. b && true) (w .1)
-      ]
+        let c : ℕ = strips C .class p in
+        elim (row c p a refl .sides) [
+          | inl n ↦ absurd (let e : row-height c ≡ 0 = sym (ap (λ b. cond b (row-height c) 0) (n .0)) ∙ z in omega (arith, costs c (row c p a refl .is-class) .0))
+          | inr w ↦ ap (λ b. b && true) (w .1)
+        ];
   }

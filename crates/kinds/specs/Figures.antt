@@ -22,6 +22,10 @@ lcm-upto (suc n) = lcm (lcm-upto n) (suc n)
 abbrev pub multiple : ℕ → ℕ
 multiple k = lcm-upto (k - 1)
 
+-- L for k from 2 to 12, as a table; the code that reads it proves that each is the multiple
+abbrev pub listed-multiples : List ℕ
+listed-multiples = 1 ∷ 2 ∷ 6 ∷ 12 ∷ 60 ∷ 60 ∷ 420 ∷ 840 ∷ 2520 ∷ 2520 ∷ 27720 ∷ []
+
 -- u: what the unit is for each unit of capacity
 abbrev pub unit-factor : ℕ → ℕ
 unit-factor k = (k - 1) * multiple k

@@ -6,7 +6,7 @@ ghost use Rattle.std.specs.declared.option.Option.the-variants.{Some, None};
 ghost use Rattle.kinds.specs.Bars.{bars, bars-refusal};
 use crate::Kind;
 use crate::figures::ceiling_factor_of;
-use crate::figures::multiple_of;
+use crate::figures::last_factor_of;
 use crate::figures::unit_factor_of;
 use crate::piece::Piece;
 use refusals::MakeRefusal;
@@ -97,7 +97,7 @@ pub impl Kind for Bars as BarsKind {
                 if class < self.k {
                     self.unit() / class as u64
                 } else {
-                    self.k as u64 * multiple_of(self.k) * piece.first as u64
+                    last_factor_of(self.k) * piece.first as u64
                 }
             }
             Some(_) => 0,

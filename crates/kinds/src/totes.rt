@@ -1,6 +1,6 @@
 // Totes: a mass as a bar has a length, and at most so many pieces.
 ghost use mathlib.Core.Path.{_≡_};
-ghost use Prim.Native.Nat.{_≤_};
+ghost use Prim.Native.Nat.{_≤_, _<_, _*_, _^_};
 ghost use Rattle.std.specs.Results.{Cases};
 ghost use Rattle.std.specs.declared.option.Option.the-variants.{Some, None};
 ghost use Rattle.kinds.specs.Totes.{totes, totes-refusal};
@@ -8,6 +8,7 @@ use crate::Kind;
 use crate::bars::Bars;
 use crate::bars::BarsKind;
 use crate::figures::ceiling_factor_of;
+use crate::figures::last_factor_of;
 use crate::figures::unit_factor_of;
 use crate::piece::Piece;
 use refusals::MakeRefusal;
@@ -36,6 +37,15 @@ impl Totes {
             limit: limit as u8,
         })
     }
+}
+
+// A figure of the class number by a measure by the piece limit.
+fn scaled(factor: u64, measure: u32, limit: u8) -> u64
+    requires { ⌜ factor ≤ 821040 ⌝ }
+    ensures value { λ r. ⌜ r ≡ factor * measure * limit ⌝ }
+    ensures most { λ r. ⌜ r < 2 ^ 60 ⌝ }
+{
+    factor * measure as u64 * limit as u64
 }
 
 pub impl Kind for Totes as TotesKind {
@@ -70,12 +80,15 @@ pub impl Kind for Totes as TotesKind {
     }
 
     fn unit(&self) -> u64 {
-        self.bars.unit() * self.limit as u64
+        scaled(unit_factor_of(self.bars.k), self.bars.capacity, self.limit)
     }
 
     fn ceiling(&self) -> u64 {
-        let factor = ceiling_factor_of(self.bars.k) + unit_factor_of(self.bars.k);
-        factor * self.bars.capacity as u64 * self.limit as u64
+        scaled(
+            ceiling_factor_of(self.bars.k) + unit_factor_of(self.bars.k),
+            self.bars.capacity,
+            self.limit,
+        )
     }
 
     fn weight(&self, piece: &Piece) -> u64 {
@@ -85,7 +98,8 @@ pub impl Kind for Totes as TotesKind {
                 if class < self.bars.k {
                     self.unit() / class as u64
                 } else {
-                    self.bars.weight(piece) * self.limit as u64 + self.bars.unit()
+                    scaled(last_factor_of(self.bars.k), piece.first, self.limit)
+                        + scaled(unit_factor_of(self.bars.k), self.bars.capacity, 1)
                 }
             }
             Some(_) => 0,
@@ -102,7 +116,6 @@ pub impl Kind for Totes as TotesKind {
     }
 
     fn full(&self, class: u8, count: u32, level: u32) -> bool {
-        self.bars.full(class, count, level)
-            || (class == self.bars.k && self.limit as u32 <= count)
+        self.bars.full(class, count, level) || (class == self.bars.k && self.limit as u32 <= count)
     }
 }
