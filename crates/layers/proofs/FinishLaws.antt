@@ -15,12 +15,11 @@ use Rattle.std.proofs.shelf.Bits.{le-div}
 use Rattle.std.proofs.shelf.Lists.{map-push, length-map}
 use Rattle.std.proofs.shelf.Sums.{sumBy-cons}
 use Rattle.std.proofs.shelf.Elements.{all-push}
-use Rattle.std.proofs.shelf.Ways.{tells}
 use Rattle.std.proofs.shelf.Tests.{lt-ltb, ltb-true, le-leb, leb-true, ne-eqb, and-parts, and-from, and-right, cases-bool, true≢false}
 use Rattle.kinds.specs.declared.piece.Piece.{Piece}
 use Rattle.refusals.specs.declared.PieceRefusal.the-variants.{Finish}
 use Rattle.kinds.specs.Kind.{Meaning, Lawful, Admitted, ClassOf, Built, one-more, none-yet, level, weights, full-with, fits-after, at-first}
-use Rattle.layers.specs.Finishes.{plain, below, has-class, raised, finishes-by, reckoned, finishes, finishes-refusal}
+use Rattle.layers.specs.Finishes.{plain, below, has-class, raised, finishes-by, reckoned, finishes}
 
 -- classes in rows of n
 row-rest : (n f k : ℕ) → 1 ≤ k → k ≤ n → (f * n + k - 1) % n + 1 ≡ k
@@ -234,6 +233,3 @@ reckoned-all F m law few = omega (arith, le-div F 104 (m .classes) (law .some-cl
 
 pub finishes-lawful : (F : ℕ) (m : Meaning) → Lawful m → 1 ≤ F → Lawful (finishes F m)
 finishes-lawful F m law some = finishes-by-lawful (reckoned F m) m law (reckoned-some F m law some) (reckoned-room F m law)
-
-pub finishes-made : (F : ℕ) (m : Meaning) → 1 ≤ F → F ≤ 4 → F * m .classes ≤ 104 → finishes-refusal F m ≡ None
-finishes-made F m some four few = grind (arith, tells)

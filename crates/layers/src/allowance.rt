@@ -88,7 +88,8 @@ pub impl<K: Kind> Kind for Allowance<K> as AllowanceKind {
     }
 
     fn fits(&self, class: u8, count: u32, level: u32, piece: &Piece) -> bool {
-        self.below.fits(class, count, level, &widen(self.amount, piece))
+        self.below
+            .fits(class, count, level, &widen(self.amount, piece))
     }
 
     fn full(&self, class: u8, count: u32, level: u32) -> bool {

@@ -1,7 +1,8 @@
 // Finishes: a kind's classes once for each finish, so that no container mixes two.
 ghost use mathlib.Core.Path.{_≡_};
 ghost use mathlib.Core.Bool.{true};
-ghost use Prim.Native.Nat.{_≤_, _<_, _*_};
+ghost use Prim.Native.Nat.{_≤_, _*_};
+ghost use lib.Dec.{leb};
 ghost use Rattle.std.specs.Results.{Cases};
 ghost use Rattle.std.specs.declared.option.Option.the-variants.{Some, None};
 ghost use Rattle.layers.specs.Finishes.{plain, below as below-class, has-class, reckoned, finishes, finishes-refusal};
@@ -22,8 +23,10 @@ impl<K: Kind + Drop> Finishes<K> {
     pub fn new(count: u32, below: K) -> Result<Finishes<K>, MakeRefusal>
         ensures { λ r. ⌜ Cases r (λ l. (finishes-refusal count (K·Kind .meaning below) ≡ None) × (l .count ≡ count) × (l .below ≡ below) × (reckoned count (K·Kind .meaning below) ≡ count)) (λ e. finishes-refusal count (K·Kind .meaning below) ≡ Some e) ⌝ }
     {
-        let classes = below.classes() as u32;
-        if count < 1 || 4 < count || 104 < count * classes {
+        if !(1 <= count && count <= 4) {
+            return Err(MakeRefusal::Finishes);
+        }
+        if !have_room(count, &below) {
             return Err(MakeRefusal::Finishes);
         }
         Ok(Finishes {
@@ -31,6 +34,15 @@ impl<K: Kind + Drop> Finishes<K> {
             below,
         })
     }
+}
+
+// Whether so many finishes have room in 104 classes, and so are all reckoned with.
+fn have_room<K: Kind>(count: u32, below: &K) -> bool
+    requires { ⌜ count ≤ 4 ⌝ }
+    ensures value { λ r. ⌜ r ≡ leb (count * K·Kind .meaning (now (below .entry)) .classes) 104 ⌝ }
+    ensures all { λ r. ⌜ (r ≡ true → reckoned count (K·Kind .meaning (now (below .entry))) ≡ count) ⌝ }
+{
+    count * below.classes() as u32 <= 104
 }
 
 // The piece that is passed down.
@@ -142,8 +154,7 @@ pub impl<K: Kind> Kind for Finishes<K> as FinishesKind {
     fn fits(&self, class: u8, count: u32, level: u32, piece: &Piece) -> bool {
         has(self, class)
             && piece.finish < known(self)
-            && self
-                .below
+            && self.below
                 .fits(class_below(self, class), count, level, &bare(piece))
     }
 

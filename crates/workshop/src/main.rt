@@ -7,6 +7,10 @@ use kinds::strips::Strips;
 use kinds::strips::StripsKind;
 use kinds::totes::Totes;
 use kinds::totes::TotesKind;
+use layers::allowance::Allowance;
+use layers::allowance::AllowanceKind;
+use layers::finishes::Finishes;
+use layers::finishes::FinishesKind;
 use refusals::MakeRefusal;
 use refusals::PieceRefusal;
 use std::error::AnyError;
@@ -144,6 +148,33 @@ fn shutter_cloth(rt: &impl Print) -> io::Result<()> {
     }
 }
 
+// A pile: two finishes over a saw cut of 4 over bars.
+fn finished_rails(rt: &impl Print) -> io::Result<()> {
+    match finished_bars() {
+        Ok(pile) => {
+            show_kind(
+                rt,
+                "The same bars, with a saw cut of 4 and two finishes",
+                &pile,
+            )?;
+            for rail in [
+                piece(13, 2996, 0, 1),
+                piece(14, 2997, 0, 1),
+                piece(15, 2996, 0, 2),
+                piece(16, 5997, 0, 0),
+            ] {
+                show_piece(rt, &pile, &rail)?;
+            }
+            Ok(())
+        }
+        Err(refusal) => show_unmade(rt, &refusal),
+    }
+}
+
+fn finished_bars() -> Result<Finishes<Allowance<Bars>>, MakeRefusal> {
+    Finishes::new(2, Allowance::new(4, Bars::new(6000, 3)?)?)
+}
+
 fn show_unmade(rt: &impl Print, refusal: &MakeRefusal) -> io::Result<()> {
     let why = refusal.number();
     let text = make_cause(refusal);
@@ -163,6 +194,7 @@ fn run(rt: &impl Print) -> Result<(), AnyError> {
     rails(rt)?;
     kit_parts(rt)?;
     shutter_cloth(rt)?;
+    finished_rails(rt)?;
     out_of_range(rt)?;
     Ok(())
 }
