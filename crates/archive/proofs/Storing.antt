@@ -14,12 +14,12 @@ use Rattle.std.proofs.shelf.Tests.{cond-true, cond-false, le-ltb, lt-ltb, cases
 use Rattle.std.specs.declared.result.Result.{Result}
 use Rattle.std.specs.declared.result.Result.the-variants.{Ok, Err}
 use Rattle.refusals.specs.declared.WriteRefusal.{WriteRefusal}
-use Rattle.archive.specs.Fields.{bytes-of, mask, written, encoded, map-bits}
-use Rattle.archive.specs.Lines.{write-answer, write-bytes, encode, Fits, Reads-as}
+use Rattle.archive.specs.Fields.{Bits-stand, bytes-of, mask, written, encoded, map-bits}
+use Rattle.archive.specs.Lines.{tag, values, widths-by, write-answer, write-bytes, encode, Fits, Reads-as}
 use Rattle.archive.specs.declared.line.Line.{Line}
 use Rattle.archive.proofs.Codec.{written-reads}
 use Rattle.std.specs.Vec.{made}
-use Rattle.archive.proofs.Numbers.{length-bytes-of, mask-lt, mask-with, mask-without, written-with, written-without}
+use Rattle.archive.proofs.Numbers.{length-bytes-of, mask-bit, mask-lt, mask-with, mask-without, written-with, written-without}
 
 -- one more byte of a number, from the low end: bytes from at + i on are written
 module _ (bs es text : List ℕ) (at i j left : ℕ) (less : i ≡ suc j) (room : at + i ≤ length bs) where
@@ -135,6 +135,19 @@ leaves-readable l bs now r fit e f =
     rw (e ∙ cond-false _ _ _ (le-ltb (length bs) (length (encode l)) long))
     (subst (λ x. Reads-as x l (length (encode l))) (sym front) (written-reads l fit)))
     (cases-lt (length bs) (length (encode l)))
+
+-- all that the writer promises, of the line m that it matched
+pub record Wrote (l : Line) (bs now : List ℕ) (r : Result ℕ WriteRefusal) : Type 0 where
+  pub value : r ≡ write-answer (encode l) bs
+  pub bytes : now ≡ write-bytes (encode l) bs
+  pub bits : Bits-stand (values l)
+  pub reads : made r (λ n. Reads-as (take n now) l n)
+
+pub wrote : (l m : Line) (vs bs now : List ℕ) (r : Result ℕ WriteRefusal) → l ≡ m → vs ≡ values m → Fits m → r ≡ write-answer (encoded (tag m) (widths-by (tag m)) vs) bs → now ≡ write-bytes (encoded (tag m) (widths-by (tag m)) vs) bs → Wrote l bs now r
+wrote l m vs bs now r is all fit answer left =
+    let value : r ≡ write-answer (encode m) bs = answer ∙ ap (λ x. write-answer (encoded (tag m) (widths-by (tag m)) x) bs) all in
+    let bytes : now ≡ write-bytes (encode m) bs = left ∙ ap (λ x. write-bytes (encoded (tag m) (widths-by (tag m)) x) bs) all in
+    subst (λ x. Wrote x bs now r) (sym is) (record { value = value; bytes = bytes; bits = mask-bit (values m); reads = leaves-readable m bs now r fit value bytes })
 
 pub fit-more : (vs : List ℕ) (i n : ℕ) → getD vs (i - 1) 0 < 2 ^ 64 → ((k : ℕ) → i ≤ k → k < n → getD vs k 0 < 2 ^ 64) → (k : ℕ) → i - 1 ≤ k → k < n → getD vs k 0 < 2 ^ 64
 fit-more vs i n here above k low high =

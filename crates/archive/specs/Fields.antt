@@ -21,8 +21,8 @@ abbrev pub mask : List ℕ → ℕ
 mask [] = 0
 mask (v ∷ vs) = cond (eqb v 0) 0 1 + 2 * mask vs
 
-abbrev pub Bits-stand : Type 0
-Bits-stand = (vs : List ℕ) (i : ℕ) → i < length vs → mask vs / 2 ^ i % 2 ≡ cond (eqb (getD vs i 0) 0) 0 1
+abbrev pub Bits-stand : List ℕ → Type 0
+Bits-stand vs = (i : ℕ) → i < length vs → mask vs / 2 ^ i % 2 ≡ cond (eqb (getD vs i 0) 0) 0 1
 
 -- the fields that are not 0
 abbrev pub written : List ℕ → List ℕ → List ℕ

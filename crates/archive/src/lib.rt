@@ -2,4 +2,5 @@
 pub mod line;
 pub mod reader;
 mod table;
+mod view;
 pub mod writer;

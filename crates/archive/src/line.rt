@@ -1,5 +1,4 @@
 // The lines of the archive: where a piece went, what closed, and what a season was packed into.
-
 // A piece, as it was handed over, with its container.
 #[derive(Clone, Copy, PartialEq, Eq, Debug)]
 pub struct PlaceLine {

@@ -7,13 +7,13 @@ ghost use Rattle.std.specs.Vec.{made};
 ghost use Rattle.std.specs.shelf.Digits.{number};
 ghost use Rattle.archive.specs.Fields.{fields, field, Within};
 ghost use Rattle.archive.specs.Lines.{Reads, Front, told as tells, parsed};
-use crate::line::ClosingLine;
-use crate::line::HeadingLine;
 use crate::line::Line;
-use crate::line::PlaceLine;
 use crate::table::CLOSING;
 use crate::table::HEADING;
 use crate::table::PLACE;
+use crate::view::closing_of;
+use crate::view::heading_of;
+use crate::view::place_of;
 use refusals::ReadRefusal;
 
 // The line that the bytes begin with, and its length. What stands behind it is not looked at.
@@ -43,20 +43,7 @@ fn read_place(bytes: &[u8], bits: u16) -> Result<(Line, usize), ReadRefusal>
     }
     match read_fields(bytes, &PLACE, bits) {
         Err(refusal) => Err(refusal),
-        Ok(got) => {
-            let v = got.0;
-            Ok((
-                Line::Place(PlaceLine {
-                    number: v[0] as u32,
-                    first: v[1] as u32,
-                    second: v[2] as u32,
-                    finish: v[3] as u8,
-                    container: v[4] as u32,
-                    class: v[5] as u8,
-                }),
-                got.1,
-            ))
-        },
+        Ok(got) => Ok((Line::Place(place_of(&got.0)), got.1)),
     }
 }
 
@@ -69,21 +56,7 @@ fn read_closing(bytes: &[u8], bits: u16) -> Result<(Line, usize), ReadRefusal>
     }
     match read_fields(bytes, &CLOSING, bits) {
         Err(refusal) => Err(refusal),
-        Ok(got) => {
-            let v = got.0;
-            Ok((
-                Line::Closing(ClosingLine {
-                    container: v[0] as u32,
-                    class: v[1] as u8,
-                    pieces: v[2] as u32,
-                    level: v[3] as u32,
-                    weight: v[4],
-                    used: v[5],
-                    floor: v[6],
-                }),
-                got.1,
-            ))
-        },
+        Ok(got) => Ok((Line::Closing(closing_of(&got.0)), got.1)),
     }
 }
 
@@ -96,23 +69,7 @@ fn read_heading(bytes: &[u8], bits: u16) -> Result<(Line, usize), ReadRefusal>
     }
     match read_fields(bytes, &HEADING, bits) {
         Err(refusal) => Err(refusal),
-        Ok(got) => {
-            let v = got.0;
-            Ok((
-                Line::Heading(HeadingLine {
-                    code: v[0] as u8,
-                    capacity: v[1] as u32,
-                    k: v[2] as u8,
-                    limit: v[3] as u8,
-                    allowance: v[4] as u16,
-                    finishes: v[5] as u8,
-                    unit: v[6],
-                    ceiling: v[7],
-                    standing: v[8] as u32,
-                }),
-                got.1,
-            ))
-        },
+        Ok(got) => Ok((Line::Heading(heading_of(&got.0)), got.1)),
     }
 }
 

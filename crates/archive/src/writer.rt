@@ -4,15 +4,15 @@ ghost use mathlib.Core.List.{_++_};
 ghost use Prim.Native.Nat.{ℕ, _+_, _*_, _^_, _<_, _≤_};
 ghost use lib.ListN.{length, getD, take, drop};
 ghost use Rattle.std.specs.Vec.{made};
-ghost use Rattle.archive.specs.Fields.{bytes-of, mask, written, encoded};
-ghost use Rattle.archive.specs.Lines.{encode, write-answer, write-bytes, Reads-as};
-use crate::line::ClosingLine;
-use crate::line::HeadingLine;
+ghost use Rattle.archive.specs.Fields.{Bits-stand, bytes-of, mask, written, encoded};
+ghost use Rattle.archive.specs.Lines.{values, encode, write-answer, write-bytes, Reads-as};
 use crate::line::Line;
-use crate::line::PlaceLine;
 use crate::table::CLOSING;
 use crate::table::HEADING;
 use crate::table::PLACE;
+use crate::view::closing_values;
+use crate::view::heading_values;
+use crate::view::place_values;
 use refusals::WriteRefusal;
 
 // Stores the line at the front of the bytes, and tells its length. Bytes behind it stay, and where
@@ -20,46 +20,13 @@ use refusals::WriteRefusal;
 pub fn write(line: &Line, bytes: &mut [u8]) -> Result<usize, WriteRefusal>
     ensures value { λ r. ⌜ r ≡ write-answer (encode (now (line .entry))) (now (bytes .entry)) ⌝ }
     ensures bytes { λ _. ⌜ now (bytes .exit) ≡ write-bytes (encode (now (line .entry))) (now (bytes .entry)) ⌝ }
+    ensures bits { λ _. ⌜ Bits-stand (values (now (line .entry))) ⌝ }
     ensures reads { λ r. ⌜ made r (λ n. Reads-as (take n (now (bytes .exit))) (now (line .entry)) n) ⌝ }
 {
     match line {
-        Line::Place(p) => {
-            let values = [
-                p.number as u64,
-                p.first as u64,
-                p.second as u64,
-                p.finish as u64,
-                p.container as u64,
-                p.class as u64,
-            ];
-            put_line(bytes, 0, &PLACE, &values)
-        }
-        Line::Closing(c) => {
-            let values = [
-                c.container as u64,
-                c.class as u64,
-                c.pieces as u64,
-                c.level as u64,
-                c.weight,
-                c.used,
-                c.floor,
-            ];
-            put_line(bytes, 1, &CLOSING, &values)
-        }
-        Line::Heading(h) => {
-            let values = [
-                h.code as u64,
-                h.capacity as u64,
-                h.k as u64,
-                h.limit as u64,
-                h.allowance as u64,
-                h.finishes as u64,
-                h.unit,
-                h.ceiling,
-                h.standing as u64,
-            ];
-            put_line(bytes, 2, &HEADING, &values)
-        }
+        Line::Place(place) => put_line(bytes, 0, &PLACE, &place_values(place)),
+        Line::Closing(closing) => put_line(bytes, 1, &CLOSING, &closing_values(closing)),
+        Line::Heading(heading) => put_line(bytes, 2, &HEADING, &heading_values(heading)),
     }
 }
 
