@@ -1,4 +1,5 @@
 // The first program: what each kind of container tells of some pieces, and what that means.
+use crate::lines::archive_lines;
 use kinds::Kind;
 use kinds::bars::Bars;
 use kinds::bars::BarsKind;
@@ -15,6 +16,8 @@ use refusals::MakeRefusal;
 use refusals::PieceRefusal;
 use std::error::AnyError;
 use std::io;
+
+mod lines;
 
 fn cause(refusal: &PieceRefusal) -> &'static str {
     match refusal {
@@ -196,6 +199,7 @@ fn run(rt: &impl Print) -> Result<(), AnyError> {
     shutter_cloth(rt)?;
     finished_rails(rt)?;
     out_of_range(rt)?;
+    archive_lines(rt)?;
     Ok(())
 }
 
