@@ -3,7 +3,7 @@ use Prim.Native.Nat.{ℕ}
 use Rattle.refusals.specs.declared.PieceRefusal.{PieceRefusal}
 use Rattle.refusals.specs.declared.PieceRefusal.the-variants.{Finish, First, Second}
 use Rattle.refusals.specs.declared.PutRefusal.{PutRefusal}
-use Rattle.refusals.specs.declared.PutRefusal.the-variants.{NoNumber, Piece, SeasonFull, ListFull}
+use Rattle.refusals.specs.declared.PutRefusal.the-variants.{NoNumber, NotAdmitted, SeasonFull, ListFull}
 use Rattle.refusals.specs.declared.MakeRefusal.{MakeRefusal}
 use Rattle.refusals.specs.declared.MakeRefusal.the-variants.{Capacity, ClassNumber, PieceLimit, Allowance, Finishes}
 use Rattle.refusals.specs.declared.WriteRefusal.{WriteRefusal}
@@ -19,7 +19,7 @@ number-of-piece Second = 4
 -- a put
 abbrev pub number-of-put : PutRefusal → ℕ
 number-of-put NoNumber = 1
-number-of-put (Piece refusal) = number-of-piece refusal
+number-of-put (NotAdmitted refusal) = number-of-piece refusal
 number-of-put SeasonFull = 5
 number-of-put ListFull = 6
 

@@ -19,7 +19,7 @@ pub enum PutRefusal {
     // the piece number is 0
     NoNumber,
     // the kind does not admit the piece
-    Piece(PieceRefusal),
+    NotAdmitted(PieceRefusal),
     // the season has all its pieces
     SeasonFull,
     // a list has fewer unwritten lines than the put would add
@@ -71,7 +71,7 @@ impl PutRefusal {
     {
         match self {
             PutRefusal::NoNumber => 1,
-            PutRefusal::Piece(refusal) => refusal.number(),
+            PutRefusal::NotAdmitted(refusal) => refusal.number(),
             PutRefusal::SeasonFull => 5,
             PutRefusal::ListFull => 6,
         }
