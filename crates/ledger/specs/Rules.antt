@@ -15,6 +15,7 @@ use Rattle.refusals.specs.declared.PieceRefusal.{PieceRefusal}
 use Rattle.refusals.specs.declared.PutRefusal.{PutRefusal}
 use Rattle.refusals.specs.declared.PutRefusal.the-variants.{NoNumber, NotAdmitted, SeasonFull, ListFull}
 use Rattle.ledger.specs.declared.Slot.{Slot}
+use Rattle.ledger.specs.declared.Bank.{Bank}
 use Rattle.archive.specs.declared.line.ClosingLine.{ClosingLine}
 use Rattle.archive.specs.declared.line.PlaceLine.{PlaceLine}
 use Rattle.ledger.specs.declared.Placing.{Placing}
@@ -41,8 +42,11 @@ stands t = not (eqb (t .count) 0)
 abbrev pub open-in : Ledger → ℕ → Slot
 open-in s c = getD (s .bank .slots) (c - 1) nothing
 
+abbrev pub new-bank : Bank
+new-bank = record { slots = replicate 104 nothing }
+
 abbrev pub new-ledger : Ledger
-new-ledger = record { bank = record { slots = replicate 104 nothing }; accepted = 0; opened = 0; used = 0; weight = 0 }
+new-ledger = record { bank = new-bank; accepted = 0; opened = 0; used = 0; weight = 0 }
 
 -- the lines that an accepted put adds
 abbrev pub place-line : Piece → Placing → PlaceLine

@@ -3,9 +3,9 @@
 ghost use mathlib.Core.Path.{_≡_};
 ghost use mathlib.Core.Bool.{cond};
 ghost use Prim.Native.Nat.{_-_};
-ghost use lib.ListN.{getD, set, replicate};
+ghost use lib.ListN.{getD, set};
 ghost use Rattle.kinds.specs.Kind.{between};
-ghost use Rattle.ledger.specs.Rules.{nothing};
+ghost use Rattle.ledger.specs.Rules.{nothing, new-bank};
 use archive::line::ClosingLine;
 
 // What stands open in one class; the count is 0 where nothing does.
@@ -33,7 +33,7 @@ pub struct Bank {
 
 impl Bank {
     pub fn new() -> Bank
-        ensures { λ r. ⌜ r .slots ≡ replicate 104 nothing ⌝ }
+        ensures { λ r. ⌜ r ≡ new-bank ⌝ }
     {
         Bank {
             slots: [NOTHING; 104],

@@ -74,15 +74,10 @@ pub next-no : (m : Meaning) (s : Ledger) (i : ℕ) → getD (s .bank .slots) i n
 next-no m s i e =
     cost-next m s i ∙ ap (λ b. sumBy (open-cost-in m s) (upto i) + cond (not b) (m .cost (i + 1)) 0) (eq-eqb (getD (s .bank .slots) i nothing .count) 0 e) ∙ add-zero _
 
-abbrev pub reported : Ledger → ℕ → ℕ → Report
-reported s u f = record { accepted = s .accepted; opened = s .opened; used = s .used; unclosed = u; weight = s .weight; floor = f }
+-- a report as a step of a season
+module _ (m : Meaning) (law : Lawful m) (s : Ledger) (r : Report) (is : r ≡ told-by m s) where
+  pub report-ran : (h : List Call) → Ran m h s → Ran m (h ++ (a-report r ∷ [])) s
+  report-ran h ran = subst (λ x. Ran m (h ++ (a-report x ∷ [])) s) (sym is) (then-report ran)
 
-module _ (m : Meaning) (law : Lawful m) (s : Ledger) (u f : ℕ) (cost : u ≡ open-cost m s) (floor : f ≡ floor-of (m .ceiling) (s .weight)) where
-  pub told-is : reported s u f ≡ told-by m s
-  told-is = λ i. reported s (cost i) (floor i)
-
-  pub report-ran : (h : List Call) → Ran m h s → Ran m (h ++ (a-report (reported s u f) ∷ [])) s
-  report-ran h r = subst (λ x. Ran m (h ++ (a-report x ∷ [])) s) (sym told-is) (then-report r)
-
-  pub season-is : (h : List Call) → Ran m h s → Season m h (reported s u f)
-  season-is h r = subst (Season m h) (sym told-is) (season m law h s r)
+  pub season-is : (h : List Call) → Ran m h s → Season m h r
+  season-is h ran = subst (Season m h) (sym is) (season m law h s ran)

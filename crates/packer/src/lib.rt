@@ -90,8 +90,7 @@ fn floor<K: Kind>(kind: &K, weight: u64) -> u64
 }
 
 fn new_ledger() -> Ledger
-    ensures value { λ r. ⌜ r ≡ new-ledger ⌝ }
-    ensures bounded { λ r. ⌜ Bounded r ⌝ }
+    ensures { λ r. ⌜ r ≡ new-ledger ⌝ }
 {
     let bank = Bank::new();
     Ledger {
@@ -162,6 +161,21 @@ fn pick<T: Copy>(b: bool, x: T, y: T) -> T
     if b { x } else { y }
 }
 
+// The closing line of a container.
+fn closing_of(slot: &Slot, class: u8, used: u64, floor: u64) -> ClosingLine
+    ensures { λ r. ⌜ r ≡ record { container = now (slot .entry) .container; class = class; pieces = now (slot .entry) .count; level = now (slot .entry) .level; weight = now (slot .entry) .weight; used = used; floor = floor } ⌝ }
+{
+    ClosingLine {
+        container: slot.container,
+        class,
+        pieces: slot.count,
+        level: slot.level,
+        weight: slot.weight,
+        used,
+        floor,
+    }
+}
+
 // All that a put of an admitted piece brings.
 #[derive(Clone, Copy)]
 pub struct Turn {
@@ -188,24 +202,8 @@ fn plan<K: Kind>(kind: &K, ledger: &Ledger, p: &Piece) -> Turn
     let weight = ledger.weight + weight_of(kind, p);
     let floor = floor(kind, weight);
     let closes = (found.count != 0) & !goes;
-    let before = ClosingLine {
-        container: found.container,
-        class,
-        pieces: found.count,
-        level: found.level,
-        weight: found.weight,
-        used,
-        floor,
-    };
-    let after = ClosingLine {
-        container: taken.container,
-        class,
-        pieces: taken.count,
-        level: taken.level,
-        weight: taken.weight,
-        used,
-        floor,
-    };
+    let before = closing_of(&found, class, used, floor);
+    let after = closing_of(&taken, class, used, floor);
     Turn {
         placing: Placing {
             container: taking.container,
@@ -280,6 +278,20 @@ fn open_cost<K: Kind>(kind: &K, ledger: &Ledger) -> u64
         }
     }
     sum
+}
+
+fn report_of<K: Kind>(kind: &K, ledger: &Ledger) -> Report
+    requires { ⌜ Bounded (now ledger) ⌝ }
+    ensures { λ r. ⌜ r ≡ told-by (K·Kind .meaning (now (kind .entry))) (now (ledger .entry)) ⌝ }
+{
+    Report {
+        accepted: ledger.accepted,
+        opened: ledger.opened,
+        used: ledger.used,
+        unclosed: open_cost(kind, ledger),
+        weight: ledger.weight,
+        floor: floor(kind, ledger.weight),
+    }
 }
 
 // What containers cost that are left open, over all classes.
@@ -374,13 +386,6 @@ impl<K: Kind> Packer<K> {
         ensures ran { λ r. ⌜ ((h : List Call) → Ran (K·Kind .meaning (now (self .entry) .kind)) h (now (self .entry) .ledger) → Ran (K·Kind .meaning (now (self .entry) .kind)) (h ++ (a-report r ∷ [])) (now (self .entry) .ledger)) ⌝ }
         ensures season { λ r. ⌜ ((h : List Call) → Ran (K·Kind .meaning (now (self .entry) .kind)) h (now (self .entry) .ledger) → Season (K·Kind .meaning (now (self .entry) .kind)) h r) ⌝ }
     {
-        Report {
-            accepted: self.ledger.accepted,
-            opened: self.ledger.opened,
-            used: self.ledger.used,
-            unclosed: open_cost(&self.kind, &self.ledger),
-            weight: self.ledger.weight,
-            floor: floor(&self.kind, self.ledger.weight),
-        }
+        report_of(&self.kind, &self.ledger)
     }
 }

@@ -31,7 +31,7 @@ impl<'a, T: Copy> Lines<'a, T> {
     pub fn len(&self) -> usize
         ensures { λ r. ⌜ r ≡ length (lines-in (now (now (self .entry) .memory)) (now (self .entry) .used)) ⌝ }
     {
-        self.used
+        self.view().len()
     }
 
     // How many lines are unwritten.
