@@ -1,5 +1,6 @@
 // The first program: what each kind of container tells of some pieces, and what that means.
 use crate::lines::archive_lines;
+use crate::season::season;
 use kinds::Kind;
 use kinds::bars::Bars;
 use kinds::bars::BarsKind;
@@ -18,6 +19,7 @@ use std::error::AnyError;
 use std::io;
 
 mod lines;
+mod season;
 
 fn cause(refusal: &PieceRefusal) -> &'static str {
     match refusal {
@@ -193,14 +195,14 @@ fn out_of_range(rt: &impl Print) -> io::Result<()> {
     }
 }
 
-fn run(rt: &impl Print) -> Result<(), AnyError> {
+fn run(rt: &LibcRuntime) -> Result<(), AnyError> {
     rails(rt)?;
     kit_parts(rt)?;
     shutter_cloth(rt)?;
     finished_rails(rt)?;
     out_of_range(rt)?;
     archive_lines(rt)?;
-    Ok(())
+    season(rt)
 }
 
 fn main(rt: LibcRuntime) -> Result<(), AnyError> {
