@@ -5,9 +5,10 @@ ghost use mathlib.Core.Bool.{cond};
 ghost use Prim.Native.Nat.{ℕ, _+_, _-_, _≤_, _<_, _^_};
 ghost use lib.ListN.{length, getD, set};
 ghost use denote.Ref.{name};
+ghost use Rattle.std.specs.declared.option.Option.the-variants.{Some, None};
 ghost use Rattle.kinds.specs.Kind.{Admitted};
 ghost use Rattle.ledger.specs.Bounded.{Within, Bounded};
-ghost use Rattle.ledger.specs.Rules.{Call, a-put, a-report, Ran, new-ledger, floor-of, put-answer, put-ledger, open-in, taking, taken, open-cost, place-line, closing-lines, places-by, closings-by};
+ghost use Rattle.ledger.specs.Rules.{Call, a-put, a-report, Ran, new-ledger, floor-of, put-answer, put-ledger, open-in, taking, open-cost, place-line, closing-lines, places-by, closings-by};
 ghost use Rattle.ledger.specs.Rules.{report as told-by};
 ghost use Rattle.ledger.specs.Season.{Season, Cap-idle, standing-cost};
 ghost use Rattle.packer.specs.Lists.{written, room};
@@ -51,7 +52,7 @@ fn class_of<K: Kind>(kind: &K, p: &Piece) -> u8
 fn load_of<K: Kind>(kind: &K, p: &Piece) -> u32
     requires admitted { ⌜ Admitted (K·Kind .meaning (now kind)) (now p) ⌝ }
     ensures value { λ r. ⌜ r ≡ K·Kind .meaning (now (kind .entry)) .load (now (p .entry)) ⌝ }
-    ensures high { λ r. ⌜ r ≤ 100_0000 ⌝ }
+    ensures high { λ r. ⌜ r ≤ 1000000 ⌝ }
 {
     kind.load(p)
 }
@@ -112,23 +113,30 @@ fn open_in(ledger: &Ledger, class: u8) -> Slot
     ledger.bank.at(class)
 }
 
-// The container that takes the piece, before it does.
-fn taking_slot<K: Kind>(kind: &K, ledger: &Ledger, p: &Piece) -> Slot
+// The container that takes the piece, before it does. `found` is what stands open in its class.
+fn taking_slot<K: Kind>(
+    kind: &K,
+    ledger: &Ledger,
+    p: &Piece,
+    class: u8,
+    load: u32,
+    found: &Slot,
+) -> Slot
     requires bounded { ⌜ Bounded (now ledger) ⌝ }
-    requires admitted { ⌜ Admitted (K·Kind .meaning (now kind)) (now p) ⌝ }
     requires few { ⌜ now ledger .accepted < 100000 ⌝ }
+    requires class { ⌜ class ≡ K·Kind .meaning (now kind) .class (now p) ⌝ }
+    requires load { ⌜ load ≡ K·Kind .meaning (now kind) .load (now p) ⌝ ∗ ⌜ load ≤ 1000000 ⌝ }
+    requires found { ⌜ now found ≡ open-in (now ledger) class ⌝ }
+    requires within { ⌜ Within (now ledger) (now found) ⌝ }
     ensures value { λ r. ⌜ r ≡ taking (K·Kind .meaning (now (kind .entry))) (now (ledger .entry)) (now (p .entry)) ⌝ }
     ensures within { λ r. ⌜ Within (now (ledger .entry)) r ⌝ }
-    ensures level { λ r. ⌜ r .level + K·Kind .meaning (now (kind .entry)) .load (now (p .entry)) ≤ 100_0000 ⌝ }
+    ensures level { λ r. ⌜ r .level + load ≤ 1000000 ⌝ }
 {
-    let class = class_of(kind, p);
-    let found = open_in(ledger, class);
-    let load = load_of(kind, p);
     if found.count != 0
-        && found.level + load <= 100_0000
+        && found.level + load <= 1_000_000
         && kind.fits(class, found.count, found.level, p)
     {
-        found
+        *found
     } else {
         Slot {
             container: ledger.opened + 1,
@@ -139,51 +147,51 @@ fn taking_slot<K: Kind>(kind: &K, ledger: &Ledger, p: &Piece) -> Slot
     }
 }
 
-// The same container with the piece in it.
-fn taken_slot<K: Kind>(kind: &K, ledger: &Ledger, p: &Piece) -> Slot
-    requires bounded { ⌜ Bounded (now ledger) ⌝ }
-    requires admitted { ⌜ Admitted (K·Kind .meaning (now kind)) (now p) ⌝ }
-    requires few { ⌜ now ledger .accepted < 100000 ⌝ }
-    ensures { λ r. ⌜ r ≡ taken (K·Kind .meaning (now (kind .entry))) (now (ledger .entry)) (now (p .entry)) ⌝ }
-{
-    let t = taking_slot(kind, ledger, p);
-    Slot {
-        container: t.container,
-        count: t.count + 1,
-        level: t.level + load_of(kind, p),
-        weight: t.weight + weight_of(kind, p),
-    }
-}
-
 fn pick<T: Copy>(b: bool, x: T, y: T) -> T
     ensures { λ r. ⌜ r ≡ cond b x y ⌝ }
 {
     if b { x } else { y }
 }
 
-// The closing line of a container.
-fn closing_of(slot: &Slot, class: u8, used: u64, floor: u64) -> ClosingLine
-    ensures { λ r. ⌜ r ≡ record { container = now (slot .entry) .container; class = class; pieces = now (slot .entry) .count; level = now (slot .entry) .level; weight = now (slot .entry) .weight; used = used; floor = floor } ⌝ }
+// The used cost, which grows where the piece does not go into what stands open.
+fn used_then<K: Kind>(kind: &K, ledger: &Ledger, class: u8, goes: bool) -> u64
+    requires { ⌜ now ledger .used ≤ 2 ^ 62 ⌝ }
+    ensures { λ r. ⌜ r ≡ cond goes (now (ledger .entry) .used) (now (ledger .entry) .used + K·Kind .meaning (now (kind .entry)) .cost class) ⌝ }
 {
-    ClosingLine {
-        container: slot.container,
-        class,
-        pieces: slot.count,
-        level: slot.level,
-        weight: slot.weight,
-        used,
-        floor,
+    if goes {
+        ledger.used
+    } else {
+        ledger.used + cost_of(kind, class)
+    }
+}
+
+// The closing line of a container, where it closes.
+fn closing_if(closes: bool, slot: &Slot, class: u8, used: u64, floor: u64) -> Option<ClosingLine>
+    ensures { λ r. ⌜ r ≡ cond closes (Some (record { container = now (slot .entry) .container; class = class; pieces = now (slot .entry) .count; level = now (slot .entry) .level; weight = now (slot .entry) .weight; used = used; floor = floor })) None ⌝ }
+{
+    if closes {
+        Some(ClosingLine {
+            container: slot.container,
+            class,
+            pieces: slot.count,
+            level: slot.level,
+            weight: slot.weight,
+            used,
+            floor,
+        })
+    } else {
+        None
     }
 }
 
 // All that a put of an admitted piece brings.
 #[derive(Clone, Copy)]
-pub struct Turn {
-    pub placing: Placing,
-    pub slot: Slot,
-    pub opened: u32,
-    pub used: u64,
-    pub weight: u64,
+struct Turn {
+    placing: Placing,
+    slot: Slot,
+    opened: u32,
+    used: u64,
+    weight: u64,
 }
 
 fn plan<K: Kind>(kind: &K, ledger: &Ledger, p: &Piece) -> Turn
@@ -193,23 +201,28 @@ fn plan<K: Kind>(kind: &K, ledger: &Ledger, p: &Piece) -> Turn
     ensures { λ r. ⌜ r ≡ turn-of (K·Kind .meaning (now (kind .entry))) (now (ledger .entry)) (now (p .entry)) ⌝ }
 {
     let class = class_of(kind, p);
+    let load = load_of(kind, p);
+    let weighs = weight_of(kind, p);
     let found = open_in(ledger, class);
-    let taking = taking_slot(kind, ledger, p);
-    let taken = taken_slot(kind, ledger, p);
+    let taking = taking_slot(kind, ledger, p, class, load, &found);
+    let taken = Slot {
+        container: taking.container,
+        count: taking.count + 1,
+        level: taking.level + load,
+        weight: taking.weight + weighs,
+    };
     let goes = taking.count != 0;
     let full = kind.full(class, taken.count, taken.level);
-    let used = pick(goes, ledger.used, ledger.used + cost_of(kind, class));
-    let weight = ledger.weight + weight_of(kind, p);
+    let used = used_then(kind, ledger, class, goes);
+    let weight = ledger.weight + weighs;
     let floor = floor(kind, weight);
     let closes = (found.count != 0) & !goes;
-    let before = closing_of(&found, class, used, floor);
-    let after = closing_of(&taken, class, used, floor);
     Turn {
         placing: Placing {
             container: taking.container,
             class,
-            before: pick(closes, Some(before), None),
-            after: pick(full, Some(after), None),
+            before: closing_if(closes, &found, class, used, floor),
+            after: closing_if(full, &taken, class, used, floor),
         },
         slot: pick(full, NOTHING, taken),
         opened: pick(goes, ledger.opened, ledger.opened + 1),
