@@ -1,4 +1,12 @@
-//! The same rules in plain Rust, for comparison with crates/bench: same pieces, same output.
+//! The same rules in plain Rust, beside the proved packer in the static library of crates/bench: same
+//! pieces, same output. The first word says which one runs, `proved` or `plain`; the second which kind,
+//! or `draw` for the drawing alone.
+
+unsafe extern "C" {
+    safe fn packed_bars(pieces: u32, sum: &mut u64) -> u64;
+    safe fn packed_totes(pieces: u32, sum: &mut u64) -> u64;
+    safe fn packed_strips(pieces: u32, sum: &mut u64) -> u64;
+}
 
 #[derive(Clone, Copy)]
 struct Piece {
@@ -328,65 +336,50 @@ impl Draw {
     }
 }
 
-fn pack<K: Kind>(name: &str, kind: K, heights: u32) {
+fn pack<K: Kind>(kind: K, heights: u32, pieces: u32, sum: &mut u64) -> u64 {
     let mut draw = Draw::new();
     let mut packer = Packer::new(kind);
-    let mut sum: u64 = 0;
-    for i in 0..PIECES {
-        let piece = draw.piece(i + 1, heights);
+    for i in 0..pieces {
+        let piece = draw.piece(i / 2 + 1, heights);
         let mut place_memory = [PlaceLine::default(); 1];
         let mut closing_memory = [ClosingLine::default(); 2];
         let mut places = Lines::new(&mut place_memory);
         let mut closings = Lines::new(&mut closing_memory);
         let _ = packer.put(&piece, &mut places, &mut closings);
         for place in places.view() {
-            sum = sum.wrapping_mul(31).wrapping_add(place.container as u64);
+            *sum = sum.wrapping_mul(31).wrapping_add(place.container as u64);
         }
         for closing in closings.view() {
-            sum = sum.wrapping_mul(31).wrapping_add(closing.floor);
+            *sum = sum.wrapping_mul(31).wrapping_add(closing.floor);
         }
     }
-    let open: u64 = (1..=104u8)
-        .filter(|&c| packer.slots[c as usize - 1].count != 0)
-        .map(|c| packer.kind.cost(c))
-        .sum();
-    println!(
-        "{name} {} {} {} {open} {} {} {sum}",
-        packer.accepted,
-        packer.opened,
-        packer.used,
-        packer.weight,
-        packer.floor(packer.weight)
-    );
+    packer.used
 }
 
-fn draw_only() {
+fn draw_only(pieces: u32, sum: &mut u64) -> u64 {
     let mut draw = Draw::new();
-    let mut sum: u64 = 0;
-    for i in 0..PIECES {
-        let piece = draw.piece(i + 1, 64);
-        sum = sum.wrapping_mul(31).wrapping_add(piece.first as u64).wrapping_add(piece.second as u64);
+    for i in 0..pieces {
+        let piece = draw.piece(i / 2 + 1, 64);
+        *sum = sum.wrapping_mul(31).wrapping_add(piece.first as u64).wrapping_add(piece.second as u64);
     }
-    println!("draw {sum}");
-}
-
-fn run(word: &str) {
-    match word {
-        "bars" => pack("bars", Bars { capacity: 1000, k: 12 }, 0),
-        "totes" => pack("totes", Totes { bars: Bars { capacity: 1000, k: 12 }, limit: 50 }, 0),
-        "strips" => pack("strips", Strips { width: 1000 }, 64),
-        _ => draw_only(),
-    }
+    0
 }
 
 fn main() {
     let words: Vec<String> = std::env::args().skip(1).collect();
-    if words.is_empty() {
-        for word in ["bars", "totes", "strips", "draw"] {
-            run(word);
+    let (who, what) = (words[0].as_str(), words[1].as_str());
+    let mut sum = 0;
+    let used = match (who, what) {
+        ("proved", "bars") => packed_bars(PIECES, &mut sum),
+        ("proved", "totes") => packed_totes(PIECES, &mut sum),
+        ("proved", "strips") => packed_strips(PIECES, &mut sum),
+        (_, "bars") => pack(Bars { capacity: 1000, k: 12 }, 0, PIECES, &mut sum),
+        (_, "totes") => {
+            let bars = Bars { capacity: 1000, k: 12 };
+            pack(Totes { bars, limit: 50 }, 0, PIECES, &mut sum)
         }
-    }
-    for word in &words {
-        run(word);
-    }
+        (_, "strips") => pack(Strips { width: 1000 }, 64, PIECES, &mut sum),
+        _ => draw_only(PIECES, &mut sum),
+    };
+    println!("{what} {used} {sum}");
 }
