@@ -5,6 +5,8 @@ ghost use Rattle.kinds.specs.Totes.{totes};
 ghost use Rattle.kinds.specs.Strips.{strips};
 ghost use Rattle.bench.specs.Packed.{Packed};
 use archive::line::ClosingLine;
+use archive::line::NO_CLOSING;
+use archive::line::NO_PLACE;
 use archive::line::PlaceLine;
 use kinds::Kind;
 use kinds::bars::Bars;
@@ -16,25 +18,6 @@ use kinds::totes::Totes;
 use kinds::totes::TotesKind;
 use packer::Packer;
 use packer::lines::Lines;
-
-const NO_PLACE: PlaceLine = PlaceLine {
-    number: 0,
-    first: 0,
-    second: 0,
-    finish: 0,
-    container: 0,
-    class: 0,
-};
-
-const NO_CLOSING: ClosingLine = ClosingLine {
-    container: 0,
-    class: 0,
-    pieces: 0,
-    level: 0,
-    weight: 0,
-    used: 0,
-    floor: 0,
-};
 
 // xorshift, 31 bits at a time
 #[derive(Drop)]

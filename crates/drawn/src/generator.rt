@@ -5,7 +5,7 @@ pub struct Generator {
 }
 
 impl Generator {
-    pub fn seeded(n: u64) -> Generator {
+    pub(crate) fn seeded(n: u64) -> Generator {
         Generator {
             state: n.wrapping_add(1).wrapping_mul(0x9e37_79b9_7f4a_7c15),
         }
@@ -21,13 +21,13 @@ impl Generator {
     }
 
     // A number below n, and 0 where n is 0.
-    pub fn below(&mut self, n: u64) -> u64 {
+    pub(crate) fn below(&mut self, n: u64) -> u64 {
         let x = self.next();
         if n == 0 { 0 } else { x % n }
     }
 
     // The same as 32 bits; n is at most 2^32.
-    pub fn below_u32(&mut self, n: u64) -> u32 {
+    pub(crate) fn below_u32(&mut self, n: u64) -> u32 {
         (self.below(n) & 0xffff_ffff) as u32
     }
 }

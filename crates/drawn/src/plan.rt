@@ -34,7 +34,7 @@ fn drawn_capacity(draw: &mut Generator) -> u32 {
 }
 
 impl Plan {
-    pub fn drawn(s: u64, draw: &mut Generator) -> Plan {
+    pub(crate) fn drawn(s: u64, draw: &mut Generator) -> Plan {
         let capacity = drawn_capacity(draw);
         let k = (s / 3 % 11) as u32 + 2;
         let limit = k.wrapping_add(draw.below_u32(51 - k as u64));
@@ -95,7 +95,7 @@ impl Plan {
         }
     }
 
-    pub fn drawn_piece(&self, draw: &mut Generator) -> Piece {
+    pub(crate) fn drawn_piece(&self, draw: &mut Generator) -> Piece {
         let number = if draw.below(30) == 0 {
             0
         } else {

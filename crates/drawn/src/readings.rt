@@ -47,7 +47,7 @@ pub const SAMPLES: [Line; 3] = [
 ];
 
 // The bytes of a line.
-pub fn written(heap: Global, line: &Line) -> Result<Vec<u8>, AllocError> {
+pub(crate) fn written(heap: Global, line: &Line) -> Result<Vec<u8>, AllocError> {
     let mut memory = [0u8; 64];
     let length = match write(line, &mut memory) {
         Ok(length) => length,
@@ -253,7 +253,7 @@ fn harm(bytes: &mut Vec<u8>, draw: &mut Generator) -> Result<(), AllocError> {
 }
 
 // Reading number i.
-pub fn reading(heap: Global, text: &mut String, i: u64) -> Result<(), AllocError> {
+pub(crate) fn reading(heap: Global, text: &mut String, i: u64) -> Result<(), AllocError> {
     let mut draw = Generator::seeded(i.wrapping_add(10_000));
     let mut bytes = written(heap, &drawn_line(&mut draw))?;
     harm(&mut bytes, &mut draw)?;
@@ -283,7 +283,7 @@ fn too_short(text: &mut String, line: &Line, length: usize) -> Result<(), AllocE
 }
 
 // Every cut of a line, and every change of one byte.
-pub fn spoilt(heap: Global, text: &mut String, line: &Line) -> Result<(), AllocError> {
+pub(crate) fn spoilt(heap: Global, text: &mut String, line: &Line) -> Result<(), AllocError> {
     let bytes = written(heap, line)?;
     let mut counts = NONE;
     bytes_line(text, bytes.as_slice())?;
@@ -320,7 +320,7 @@ fn counted(text: &mut String, letter: &str, counts: &Counts, sum: u64) -> Result
 }
 
 // Every map, with so many bytes behind it that are all 1.
-pub fn maps(heap: Global, text: &mut String, behind: usize) -> Result<(), AllocError> {
+pub(crate) fn maps(heap: Global, text: &mut String, behind: usize) -> Result<(), AllocError> {
     let mut counts = NONE;
     let mut sum = START;
     for high in 0..=255u8 {

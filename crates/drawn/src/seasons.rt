@@ -8,6 +8,8 @@ use crate::text::numbers;
 use archive::line::ClosingLine;
 use archive::line::HeadingLine;
 use archive::line::Line;
+use archive::line::NO_CLOSING;
+use archive::line::NO_PLACE;
 use archive::line::PlaceLine;
 use kinds::Kind;
 use kinds::bars::Bars;
@@ -29,25 +31,6 @@ use refusals::MakeRefusal;
 use refusals::PutRefusal;
 use std::alloc::AllocError;
 use std::alloc::Global;
-
-const NO_PLACE: PlaceLine = PlaceLine {
-    number: 0,
-    first: 0,
-    second: 0,
-    finish: 0,
-    container: 0,
-    class: 0,
-};
-
-const NO_CLOSING: ClosingLine = ClosingLine {
-    container: 0,
-    class: 0,
-    pieces: 0,
-    level: 0,
-    weight: 0,
-    used: 0,
-    floor: 0,
-};
 
 // How much room a list has, and how many lines are in it already.
 #[derive(Clone, Copy)]
@@ -315,7 +298,7 @@ fn first<K: Kind + Drop>(
 }
 
 // Season number s.
-pub fn season(heap: Global, text: &mut String, s: u64) -> Result<(), AllocError> {
+pub(crate) fn season(heap: Global, text: &mut String, s: u64) -> Result<(), AllocError> {
     let mut draw = Generator::seeded(s);
     let plan = Plan::drawn(s, &mut draw);
     numbers(text, "s", &[s])?;
@@ -344,7 +327,7 @@ pub struct Long {
 }
 
 impl Long {
-    pub fn new() -> Result<Long, MakeRefusal> {
+    pub(crate) fn new() -> Result<Long, MakeRefusal> {
         let bars = Bars::new(1_000, 12)?;
         Ok(Long {
             packer: Packer::new(bars),
@@ -353,7 +336,7 @@ impl Long {
         })
     }
 
-    pub fn put(&mut self, heap: Global, text: &mut String) -> Result<(), AllocError> {
+    pub(crate) fn put(&mut self, heap: Global, text: &mut String) -> Result<(), AllocError> {
         let piece = Piece {
             number: self.number % 1_000 + 1,
             first: self.draw.below_u32(1_000).wrapping_add(1),
@@ -371,7 +354,7 @@ impl Long {
         )
     }
 
-    pub fn report(&self, text: &mut String) -> Result<(), AllocError> {
+    pub(crate) fn report(&self, text: &mut String) -> Result<(), AllocError> {
         report_text(text, &self.packer.report())
     }
 }

@@ -1,11 +1,10 @@
 // Lines of text, collected until they are printed or summed up.
 use std::alloc::AllocError;
-use std::alloc::Global;
 
 pub const START: u64 = 0xcbf2_9ce4_8422_2325;
 
 // A letter, and one space before each number.
-pub fn numbers(text: &mut String, letter: &str, values: &[u64]) -> Result<(), AllocError> {
+pub(crate) fn numbers(text: &mut String, letter: &str, values: &[u64]) -> Result<(), AllocError> {
     text.push_str(letter)?;
     for value in values {
         text.push_str(" ")?;
@@ -60,7 +59,7 @@ fn hex(text: &mut String, byte: u8) -> Result<(), AllocError> {
 }
 
 // A line with bytes, and the letter alone where there are none.
-pub fn bytes_line(text: &mut String, bytes: &[u8]) -> Result<(), AllocError> {
+pub(crate) fn bytes_line(text: &mut String, bytes: &[u8]) -> Result<(), AllocError> {
     text.push_str("y")?;
     if !bytes.is_empty() {
         text.push_str(" ")?;
@@ -72,7 +71,7 @@ pub fn bytes_line(text: &mut String, bytes: &[u8]) -> Result<(), AllocError> {
 }
 
 // FNV-1a, going on from an earlier sum.
-pub fn sum_of(start: u64, text: &str) -> u64 {
+pub(crate) fn sum_of(start: u64, text: &str) -> u64 {
     let mut sum = start;
     for byte in text.as_bytes() {
         sum = (sum ^ *byte as u64).wrapping_mul(0x0000_0100_0000_01b3);
@@ -81,7 +80,7 @@ pub fn sum_of(start: u64, text: &str) -> u64 {
 }
 
 // A letter, some numbers and a sum in hexadecimal.
-pub fn sum_line(
+pub(crate) fn sum_line(
     text: &mut String,
     letter: &str,
     values: &[u64],
@@ -97,8 +96,4 @@ pub fn sum_line(
         hex(text, *byte)?;
     }
     text.push_str("\n")
-}
-
-pub fn empty(heap: Global) -> String {
-    String::new(heap)
 }

@@ -5,8 +5,8 @@ ghost use mathlib.Core.List.{[], _∷_};
 ghost use Rattle.ledger.specs.Rules.{a-put};
 ghost use Rattle.ledger.specs.Season.{Season};
 ghost use Rattle.halves.specs.Halving.{sized, halves};
-use archive::line::ClosingLine;
-use archive::line::PlaceLine;
+use archive::line::NO_CLOSING;
+use archive::line::NO_PLACE;
 use kinds::Kind;
 use kinds::piece::Piece;
 use ledger::Placing;
@@ -85,25 +85,6 @@ pub impl Kind for Halves as HalvesKind {
     }
 }
 
-const NO_PLACE: PlaceLine = PlaceLine {
-    number: 0,
-    first: 0,
-    second: 0,
-    finish: 0,
-    container: 0,
-    class: 0,
-};
-
-const NO_CLOSING: ClosingLine = ClosingLine {
-    container: 0,
-    class: 0,
-    pieces: 0,
-    level: 0,
-    weight: 0,
-    used: 0,
-    floor: 0,
-};
-
 // A season of two puts: how a caller comes by the promise, here for this crate's own kind.
 pub fn two_puts(
     p: Piece,
@@ -129,6 +110,7 @@ pub fn two_puts(
 #[cfg(test)]
 mod tests {
     use super::*;
+    use archive::line::ClosingLine;
     use archive::line::ClosingLineDebug;
     use archive::line::ClosingLinePartialEq;
     use kinds::bars::Bars;

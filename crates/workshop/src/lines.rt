@@ -97,7 +97,7 @@ fn show_line(rt: &impl Print, line: &Line) -> io::Result<()> {
 }
 
 // A heading, two places and a closing, as the archive has them.
-pub fn archive_lines(rt: &impl Print) -> io::Result<()> {
+pub(crate) fn archive_lines(rt: &impl Print) -> io::Result<()> {
     println!(
         rt,
         "Archive lines: a map of two bytes, then the fields that are not 0"

@@ -2,7 +2,8 @@
 use archive::line::ClosingLine;
 use archive::line::HeadingLine;
 use archive::line::Line;
-use archive::line::PlaceLine;
+use archive::line::NO_CLOSING;
+use archive::line::NO_PLACE;
 use archive::reader::read;
 use archive::writer::write;
 use kinds::Kind;
@@ -22,25 +23,6 @@ use refusals::PutRefusal;
 use std::alloc::AllocError;
 use std::alloc::Global;
 use std::error::AnyError;
-
-const NO_PLACE: PlaceLine = PlaceLine {
-    number: 0,
-    first: 0,
-    second: 0,
-    finish: 0,
-    container: 0,
-    class: 0,
-};
-
-const NO_CLOSING: ClosingLine = ClosingLine {
-    container: 0,
-    class: 0,
-    pieces: 0,
-    level: 0,
-    weight: 0,
-    used: 0,
-    floor: 0,
-};
 
 type Pile = Finishes<Allowance<Bars>>;
 
@@ -204,7 +186,7 @@ fn heading(unit: u64, ceiling: u64, standing: u64) -> Line {
     })
 }
 
-pub fn season(rt: &LibcRuntime) -> Result<(), AnyError> {
+pub(crate) fn season(rt: &LibcRuntime) -> Result<(), AnyError> {
     let Ok(pile) = pile() else {
         return Err("the pile was refused".into());
     };
