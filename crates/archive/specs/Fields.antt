@@ -21,6 +21,7 @@ abbrev pub mask : List ℕ → ℕ
 mask [] = 0
 mask (v ∷ vs) = cond (eqb v 0) 0 1 + 2 * mask vs
 
+-- which is what the bits of that number say, one by one
 abbrev pub Bits-stand : List ℕ → Type 0
 Bits-stand vs = (i : ℕ) → i < length vs → mask vs / 2 ^ i % 2 ≡ cond (eqb (getD vs i 0) 0) 0 1
 
@@ -42,9 +43,11 @@ abbrev pub Within : List ℕ → ℕ → List ℕ → Type 0
 Within [] k vs = Unit {0}
 Within (w ∷ ws) k vs = (getD vs k 0 < 256 ^ w) × Within ws (k + 1) vs
 
+-- the place of the two bits that tell the sort
 abbrev pub map-bits : ℕ
 map-bits = 16384
 
+-- the bytes of a line: its map, then the fields that are not 0
 abbrev pub encoded : ℕ → List ℕ → List ℕ → List ℕ
 encoded tag ws vs = bytes-of 2 (tag * map-bits + mask vs) ++ written ws vs
 

@@ -24,6 +24,7 @@ pub record Field (L : Type 0) : Type 0 where
   pub width : ℕ
   pub value : L → ℕ
 
+-- a field of this width and this value
 abbrev pub field-of : {L : Type 0} → ℕ → (L → ℕ) → Field L
 field-of w v = record { width = w; value = v }
 
@@ -63,10 +64,12 @@ heading-fields =
     ∷ field-of 4 (λ l. l .standing)
     ∷ []
 
+-- the widths of some fields
 abbrev pub widths-of : {L : Type 0} → List (Field L) → List ℕ
 widths-of [] = []
 widths-of (f ∷ fs) = f .width ∷ widths-of fs
 
+-- the values of some fields, of a line
 abbrev pub values-of : {L : Type 0} → List (Field L) → L → List ℕ
 values-of [] l = []
 values-of (f ∷ fs) l = f .value l ∷ values-of fs l
@@ -77,6 +80,7 @@ tag (Place l) = 0
 tag (Closing l) = 1
 tag (Heading l) = 2
 
+-- the values of a line, from bit 0 up
 abbrev pub values : Line → List ℕ
 values (Place l) = values-of place-fields l
 values (Closing l) = values-of closing-fields l
@@ -86,6 +90,7 @@ values (Heading l) = values-of heading-fields l
 abbrev pub widths-by : ℕ → List ℕ
 widths-by t = cond (eqb t 0) (widths-of place-fields) (cond (eqb t 1) (widths-of closing-fields) (widths-of heading-fields))
 
+-- every field has a value of its width
 abbrev pub Fits : Line → Type 0
 Fits l = Fit (widths-by (tag l)) (values l)
 
@@ -99,6 +104,7 @@ encode l = encoded (tag l) (widths-by (tag l)) (values l)
 abbrev pub write-answer : List ℕ → List ℕ → Result ℕ WriteRefusal
 write-answer e bs = cond (ltb (length bs) (length e)) (Err (record { needed = length e })) (Ok (length e))
 
+-- and what it leaves in memory
 abbrev pub write-bytes : List ℕ → List ℕ → List ℕ
 write-bytes e bs = cond (ltb (length bs) (length e)) bs (e ++ drop (length e) bs)
 
@@ -112,6 +118,7 @@ map-of bs = number 256 (take 2 bs)
 abbrev pub Parsed : Type 0
 Parsed = (ℕ × List ℕ) × ℕ
 
+-- a line of the sort t from the values of its fields, or the refusal
 abbrev pub of-sort : ℕ → Result (List ℕ × ℕ) ReadRefusal → Result Parsed ReadRefusal
 of-sort t (Ok p) = Ok ((t, p .0), p .1)
 of-sort t (Err e) = Err e
@@ -120,9 +127,11 @@ of-sort t (Err e) = Err e
 abbrev pub parsed : ℕ → ℕ → List ℕ → Result Parsed ReadRefusal
 parsed t m bs = cond (leb (2 ^ length (widths-by t)) m) (Err (NoField 0)) (of-sort t (fields [] (widths-by t) m 2 (drop 2 bs)))
 
+-- the same by what the top two bits say; there is no fourth sort
 abbrev pub by-tag : ℕ → ℕ → List ℕ → Result Parsed ReadRefusal
 by-tag t m bs = cond (ltb t 3) (parsed t m bs) (Err (NoField 0))
 
+-- what any bytes parse to
 abbrev pub decode : List ℕ → Result Parsed ReadRefusal
 decode bs = cond (ltb (length bs) 2) (Err (Ended 0)) (by-tag (map-of bs / map-bits) (map-of bs % map-bits) bs)
 
@@ -135,6 +144,7 @@ told (Err e) = Err e
 abbrev pub Reads : List ℕ → Result (Line × ℕ) ReadRefusal → Type 0
 Reads bs r = told r ≡ decode bs
 
+-- numbers that are bytes
 abbrev pub Bytes : List ℕ → Type 0
 Bytes bs = All (λ b. b < 256) bs
 

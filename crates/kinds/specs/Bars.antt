@@ -29,6 +29,7 @@ bar-class C k q = told (bar-refusal C q) (min k (C / q .first)) 0
 
 -- the capacity C, the class number k, and the figures L, u and p of k
 module _ (C k L u p : ℕ) where
+  -- all that such bars tell
   abbrev pub bars-by : Meaning
   bars-by = record {
     code = 1;
@@ -46,5 +47,6 @@ module _ (C k L u p : ℕ) where
     Allowed = λ ps h. (h ≡ 1) × All (λ q. bar-refusal C q ≡ None) ps × (sumBy (λ q. q .first) ps ≤ C);
   }
 
+-- bars of the capacity C in k classes
 abbrev pub bars : ℕ → ℕ → Meaning
 bars C k = bars-by C k (multiple k) (unit-factor k) (ceiling-factor k)

@@ -10,6 +10,7 @@ abbrev pub gcd-in : ℕ → ℕ → ℕ → ℕ
 gcd-in zero a b = a
 gcd-in (suc n) a b = cond (eqb b 0) a (gcd-in n b (a % b))
 
+-- the least common multiple of two numbers
 abbrev pub lcm : ℕ → ℕ → ℕ
 lcm a b = a * b / gcd-in (suc b) a b
 
@@ -34,5 +35,6 @@ unit-factor k = (k - 1) * multiple k
 abbrev pub ceiling-factors : List ℕ
 ceiling-factors = 2 ∷ 7 ∷ 31 ∷ 82 ∷ 510 ∷ 610 ∷ 4980 ∷ 11380 ∷ 38400 ∷ 42660 ∷ 516120 ∷ []
 
+-- p for one k
 abbrev pub ceiling-factor : ℕ → ℕ
 ceiling-factor k = getD ceiling-factors (k - 2) 0

@@ -36,6 +36,7 @@ pub record Meaning : Type 1 where
   -- the pieces are an allowed container of that cost
   pub Allowed : List Piece → ℕ → Type 0
 
+-- the kind does not refuse the piece
 abbrev pub Admitted : Meaning → Piece → Type 0
 Admitted m p = m .refusal p ≡ None
 
@@ -56,12 +57,15 @@ between low high n = leb low n && leb n high
 abbrev pub level : Meaning → List Piece → ℕ
 level m ps = sumBy (m .load) ps
 
+-- what pieces weigh together
 abbrev pub weights : Meaning → List Piece → ℕ
 weights m ps = sumBy (m .weight) ps
 
+-- a piece fits a container that holds these pieces
 abbrev pub fits-after : Meaning → ℕ → List Piece → Piece → Bool
 fits-after m c ps p = m .fits c (length ps) (level m ps) p
 
+-- a container that holds these pieces is full
 abbrev pub full-with : Meaning → ℕ → List Piece → Bool
 full-with m c ps = m .full c (length ps) (level m ps)
 

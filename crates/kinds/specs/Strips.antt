@@ -27,10 +27,11 @@ rank-from (suc n) g b = cond (leb b (2 ^ g)) g (rank-from n (g + 1) b)
 unfoldable pub rank : ℕ → ℕ
 rank b = rank-from 12 0 b
 
--- narrow classes are 1 to 13, wide ones 14 to 26
+-- narrow classes are 1 to 13
 abbrev pub narrow : ℕ → Bool
 narrow c = between 1 13 c
 
+-- wide ones are 14 to 26
 abbrev pub wide : ℕ → Bool
 wide c = between 14 26 c
 
@@ -42,6 +43,7 @@ row-height c = cond (narrow c) (2 ^ (c - 1)) (cond (wide c) (2 ^ (c - 14)) 0)
 abbrev pub strip-refusal : ℕ → Piece → Option PieceRefusal
 strip-refusal C p = cond (not (eqb (p .finish) 0)) (Some Finish) (cond (not (between 1 C (p .first))) (Some First) (cond (not (between 1 4096 (p .second))) (Some Second) None))
 
+-- what a piece covers
 abbrev pub area : Piece → ℕ
 area p = p .first * p .second
 

@@ -18,6 +18,7 @@ totes-refusal C k K = cond (not (between 1 1000000 C)) (Some Capacity) (cond (no
 
 -- the measures and figures of a bar, and the piece limit K
 module _ (C k L u p K : ℕ) where
+  -- all that such totes tell
   abbrev pub totes-by : Meaning
   totes-by = record {
     code = 2;
@@ -35,5 +36,6 @@ module _ (C k L u p K : ℕ) where
     Allowed = λ ps h. bars-by C k L u p .Allowed ps h × (length ps ≤ K);
   }
 
+-- totes of the capacity C in k classes, at most K pieces each
 abbrev pub totes : ℕ → ℕ → ℕ → Meaning
 totes C k K = totes-by C k (multiple k) (unit-factor k) (ceiling-factor k) K

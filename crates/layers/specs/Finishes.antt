@@ -27,6 +27,7 @@ module _ (F : ℕ) (m : Meaning) where
   abbrev pub below : ℕ → ℕ
   below c = (c - 1) % (m .classes) + 1
 
+  -- the class exists
   abbrev pub has-class : ℕ → Bool
   has-class c = between 1 (F * m .classes) c
 
@@ -34,6 +35,7 @@ module _ (F : ℕ) (m : Meaning) where
   abbrev pub raised : ℕ → ℕ → ℕ
   raised f c = cond (eqb c 0) 0 (f * m .classes + c)
 
+  -- all that the layer tells
   abbrev pub finishes-by : Meaning
   finishes-by = record {
     code = m .code;
@@ -55,5 +57,6 @@ module _ (F : ℕ) (m : Meaning) where
 abbrev pub reckoned : ℕ → Meaning → ℕ
 reckoned F m = min F (104 / m .classes)
 
+-- the layer of F finishes
 abbrev pub finishes : ℕ → Meaning → Meaning
 finishes F m = finishes-by (reckoned F m) m

@@ -9,6 +9,7 @@ use Rattle.ledger.specs.Rules.{nothing}
 abbrev pub Within : Ledger → Slot → Type 0
 Within s t = (t .count ≤ s .accepted) × (t .level ≤ 1000000) × (t .weight ≤ s .weight)
 
+-- and of the whole ledger
 abbrev pub Bounded : Ledger → Type 0
 Bounded s =
     (s .accepted ≤ 100000)

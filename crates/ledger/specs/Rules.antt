@@ -32,9 +32,11 @@ upto (suc n) = upto n ++ (suc n ∷ [])
 abbrev pub floor-of : ℕ → ℕ → ℕ
 floor-of ceiling weight = (weight + (ceiling - 1)) / ceiling
 
+-- a slot in which nothing stands open
 abbrev pub nothing : Slot
 nothing = record { container = 0; count = 0; level = 0; weight = 0 }
 
+-- a container stands open in the slot
 abbrev pub stands : Slot → Bool
 stands t = not (eqb (t .count) 0)
 
@@ -42,34 +44,40 @@ stands t = not (eqb (t .count) 0)
 abbrev pub open-in : Ledger → ℕ → Slot
 open-in s c = getD (s .bank .slots) (c - 1) nothing
 
+-- a bank in which nothing stands open
 abbrev pub new-bank : Bank
 new-bank = record { slots = replicate 104 nothing }
 
+-- the ledger of a new packer
 abbrev pub new-ledger : Ledger
 new-ledger = record { bank = new-bank; accepted = 0; opened = 0; used = 0; weight = 0 }
 
--- the lines that an accepted put adds
+-- the place line of an accepted put
 abbrev pub place-line : Piece → Placing → PlaceLine
 place-line p a = record { number = p .number; first = p .first; second = p .second; finish = p .finish; container = a .container; class = a .class }
 
+-- what is there, as a list of one or none
 abbrev pub maybe : {T : Type 0} → Option T → List T
 maybe (Some x) = x ∷ []
 maybe None = []
 
+-- the closing before, then the closing after
 abbrev pub closing-lines : Placing → List ClosingLine
 closing-lines a = maybe (a .before) ++ maybe (a .after)
 
--- the lines that a put adds, by its answer
+-- the lines that a put adds to the place list, by its answer
 abbrev pub places-by : Piece → Result Placing PutRefusal → List PlaceLine
 places-by p (Ok a) = place-line p a ∷ []
 places-by p (Err r) = []
 
+-- and to the closing list
 abbrev pub closings-by : Result Placing PutRefusal → List ClosingLine
 closings-by (Ok a) = closing-lines a
 closings-by (Err r) = []
 
 -- what a put of the piece p does, step by step
 module _ (m : Meaning) (s : Ledger) (p : Piece) where
+  -- what stands open in the class of the piece
   abbrev pub found : Slot
   found = open-in s (m .class p)
 
@@ -77,9 +85,11 @@ module _ (m : Meaning) (s : Ledger) (p : Piece) where
   abbrev pub fits-found : Bool
   fits-found = leb (found .level + m .load p) 1000000 && m .fits (m .class p) (found .count) (found .level) p
 
+  -- it closes, since the piece does not fit it
   abbrev pub closes-before : Bool
   closes-before = stands found && not fits-found
 
+  -- it takes the piece
   abbrev pub goes-on : Bool
   goes-on = stands found && fits-found
 
@@ -87,6 +97,7 @@ module _ (m : Meaning) (s : Ledger) (p : Piece) where
   abbrev pub taking : Slot
   taking = cond goes-on found (record { container = s .opened + 1; count = 0; level = 0; weight = 0 })
 
+  -- the same container with the piece in it
   abbrev pub taken : Slot
   taken = record {
     container = taking .container;
@@ -95,9 +106,11 @@ module _ (m : Meaning) (s : Ledger) (p : Piece) where
     weight = taking .weight + m .weight p;
   }
 
+  -- it closes, since it is full
   abbrev pub closes-after : Bool
   closes-after = m .full (m .class p) (taken .count) (taken .level)
 
+  -- the ledger with the piece accepted
   abbrev pub ledger-after : Ledger
   ledger-after = record {
     bank = record { slots = set (s .bank .slots) (m .class p - 1) (cond closes-after nothing taken) };
@@ -107,6 +120,7 @@ module _ (m : Meaning) (s : Ledger) (p : Piece) where
     weight = s .weight + m .weight p;
   }
 
+  -- the closing line of a container, with used cost and floor as they are after the put
   abbrev pub closing-of : Slot → ClosingLine
   closing-of t = record {
     container = t .container;
@@ -118,6 +132,7 @@ module _ (m : Meaning) (s : Ledger) (p : Piece) where
     floor = floor-of (m .ceiling) (ledger-after .weight);
   }
 
+  -- the answer
   abbrev pub placing : Placing
   placing = record {
     container = taking .container;
@@ -135,10 +150,12 @@ module _ (m : Meaning) (s : Ledger) (p : Piece) where
   late-answer places closes =
       cond (leb 100000 (s .accepted)) (Err SeasonFull) (cond (eqb places 0 || ltb closes closings) (Err ListFull) (Ok placing))
 
+  -- before them, what the kind says of the piece
   abbrev pub kind-answer : Option PieceRefusal → ℕ → ℕ → Result Placing PutRefusal
   kind-answer (Some r) places closes = Err (NotAdmitted r)
   kind-answer None places closes = late-answer places closes
 
+  -- before that, a piece number of 0
   abbrev pub put-answer : ℕ → ℕ → Result Placing PutRefusal
   put-answer places closes = cond (eqb (p .number) 0) (Err NoNumber) (kind-answer (m .refusal p) places closes)
 
@@ -147,6 +164,7 @@ abbrev pub ledger-by : Meaning → Ledger → Piece → Result Placing PutRefusa
 ledger-by m s p (Ok a) = ledger-after m s p
 ledger-by m s p (Err r) = s
 
+-- the ledger after a put, refused or not
 abbrev pub put-ledger : Meaning → Ledger → Piece → ℕ → ℕ → Ledger
 put-ledger m s p places closes = ledger-by m s p (put-answer m s p places closes)
 
@@ -154,6 +172,7 @@ put-ledger m s p places closes = ledger-by m s p (put-answer m s p places closes
 abbrev pub open-cost : Meaning → Ledger → ℕ
 open-cost m s = sumBy (λ c. cond (stands (open-in s c)) (m .cost c) 0) (upto 104)
 
+-- what a report tells
 abbrev pub report : Meaning → Ledger → Report
 report m s = record {
   accepted = s .accepted;

@@ -18,13 +18,16 @@ use Rattle.ledger.specs.Rules.{Call, a-put, a-report, upto, stands, found, fit
 
 -- Packings
 
+-- some pieces, at some cost
 pub record Container : Type 0 where
   pub pieces : List Piece
   pub cost : ℕ
 
+-- allowed at that cost, which is at least 1
 abbrev pub AllowedContainer : Meaning → Container → Type 0
 AllowedContainer m k = (1 ≤ k .cost) × m .Allowed (k .pieces) (k .cost)
 
+-- what a packing costs
 abbrev pub cost-of : List Container → ℕ
 cost-of ks = sumBy (λ k. k .cost) ks
 
@@ -45,14 +48,17 @@ pub record Placed : Type 0 where
   pub container : ℕ
   pub class : ℕ
 
+-- the piece that a call placed, if it placed one
 abbrev pub placed-by : Call → List Placed
 placed-by (a-put p (Ok a)) = record { piece = p; container = a .container; class = a .class } ∷ []
 placed-by (a-put p (Err r)) = []
 placed-by (a-report r) = []
 
+-- the pieces that calls placed, in their order
 abbrev pub placed : List Call → List Placed
 placed h = joined placed-by h
 
+-- the pieces alone
 abbrev pub pieces-of : List Placed → List Piece
 pieces-of qs = map (λ q. q .piece) qs
 
@@ -70,6 +76,7 @@ abbrev pub numbers : List Placed → List ℕ
 numbers [] = []
 numbers (q ∷ qs) = q .container ∷ kept-by (λ n. not (eqb n (q .container))) (numbers qs)
 
+-- container n, at the cost of its class
 abbrev pub container-in : Meaning → List Placed → ℕ → Container
 container-in m qs n = record { pieces = pieces-in n qs; cost = m .cost (class-in n qs) }
 
@@ -87,6 +94,10 @@ pub record Season (m : Meaning) (h : List Call) (r : Report) : Type 0 where
   pub no-cheaper : (ks : List Container) → AllowedPacking m (pieces-of (placed h)) ks → r .floor ≤ cost-of ks
   -- how far the used cost can lie above it
   pub ratio : m .unit * r .used ≤ m .ceiling * r .floor + m .unit * standing-cost m
+
+-- The floor of a report is the least number whose product with the ceiling is at least the weight.
+abbrev pub Least-floor : Meaning → Report → Type 0
+Least-floor m r = (r .weight ≤ m .ceiling * r .floor) × ((k : ℕ) → r .weight ≤ m .ceiling * k → r .floor ≤ k)
 
 -- The rules' cap on the level does not bite: where a container stands open that calls led to, a piece fits it exactly when the kind says so.
 abbrev pub Cap-idle : Meaning → Ledger → Piece → Type 0

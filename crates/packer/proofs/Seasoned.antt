@@ -21,7 +21,8 @@ use Rattle.kinds.specs.Kind.{Meaning, Lawful, ClassOf}
 use Rattle.ledger.specs.Rules.{Call, a-put, a-report, Ran, then-put, then-report, put-answer, put-ledger, stands, open-in, nothing, upto}
 use Rattle.ledger.specs.declared.Report.{Report}
 use Rattle.ledger.specs.Rules.{open-cost, floor-of, report as told-by}
-use Rattle.ledger.specs.Season.{Season}
+use Rattle.ledger.specs.Season.{Season, Least-floor}
+use Rattle.ledger.proofs.Floors.{floor-covers, floor-least}
 use Rattle.ledger.proofs.Seasons.{season}
 use Rattle.ledger.proofs.Sound.{open-cost-in}
 
@@ -81,3 +82,6 @@ module _ (m : Meaning) (law : Lawful m) (s : Ledger) (r : Report) (is : r ≡ to
 
   pub season-is : (h : List Call) → Ran m h s → Season m h r
   season-is h ran = subst (Season m h) (sym is) (season m law h s ran)
+
+  pub floor-is : Least-floor m r
+  floor-is = subst (Least-floor m) (sym is) (floor-covers (m .ceiling) (s .weight) (law .ceiling-range .0), λ k. floor-least (m .ceiling) (s .weight) k (law .ceiling-range .0))

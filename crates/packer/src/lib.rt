@@ -10,7 +10,7 @@ ghost use Rattle.kinds.specs.Kind.{Admitted};
 ghost use Rattle.ledger.specs.Bounded.{Within, Bounded};
 ghost use Rattle.ledger.specs.Rules.{Call, a-put, a-report, Ran, new-ledger, floor-of, put-answer, put-ledger, open-in, taking, open-cost, place-line, closing-lines, places-by, closings-by};
 ghost use Rattle.ledger.specs.Rules.{report as told-by};
-ghost use Rattle.ledger.specs.Season.{Season, Cap-idle, standing-cost};
+ghost use Rattle.ledger.specs.Season.{Season, Least-floor, Cap-idle, standing-cost};
 ghost use Rattle.packer.specs.Lists.{written, room};
 ghost use Rattle.packer.specs.Shown.{free, Gained};
 ghost use Rattle.packer.specs.Steps.{turn-of, entered};
@@ -395,6 +395,7 @@ impl<K: Kind> Packer<K> {
     // pieces by answered container are an allowed packing that costs what is reported, no allowed
     // packing of them costs less than the floor, and the used cost is not far above it.
     pub fn report(&self) -> Report
+        ensures floor { λ r. ⌜ Least-floor (K·Kind .meaning (now (self .entry) .kind)) r ⌝ }
         ensures told { λ r. ⌜ r ≡ told-by (K·Kind .meaning (now (self .entry) .kind)) (now (self .entry) .ledger) ⌝ }
         ensures ran { λ r. ⌜ ((h : List Call) → Ran (K·Kind .meaning (now (self .entry) .kind)) h (now (self .entry) .ledger) → Ran (K·Kind .meaning (now (self .entry) .kind)) (h ++ (a-report r ∷ [])) (now (self .entry) .ledger)) ⌝ }
         ensures season { λ r. ⌜ ((h : List Call) → Ran (K·Kind .meaning (now (self .entry) .kind)) h (now (self .entry) .ledger) → Season (K·Kind .meaning (now (self .entry) .kind)) h r) ⌝ }

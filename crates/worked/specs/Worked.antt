@@ -22,18 +22,20 @@ use Rattle.ledger.specs.declared.Placing.{Placing}
 use Rattle.ledger.specs.declared.Report.{Report}
 use Rattle.ledger.specs.Rules.{new-ledger, put-answer, put-ledger, report}
 
--- a piece of these measures, and one of this length
+-- a piece of these measures
 abbrev pub cut : ℕ → ℕ → ℕ → Piece
 cut a b f = record { number = 1; first = a; second = b; finish = f }
 
+-- a piece of this length
 abbrev pub long : ℕ → Piece
 long a = cut a 0 0
 
--- pieces of these lengths put in turn, with room for two lines in each list: the answers, and the ledger at the end
+-- pieces of these lengths put in turn, with room for two lines in each list: the answers
 abbrev pub answers : Meaning → Ledger → List ℕ → List (Result Placing PutRefusal)
 answers m s [] = []
 answers m s (a ∷ ls) = put-answer m s (long a) 2 2 ∷ answers m (put-ledger m s (long a) 2 2) ls
 
+-- and the ledger at the end
 abbrev pub at-end : Meaning → Ledger → List ℕ → Ledger
 at-end m s [] = s
 at-end m s (a ∷ ls) = at-end m (put-ledger m s (long a) 2 2) ls
@@ -50,6 +52,7 @@ at n c before after = Ok (record { container = n; class = c; before = before; af
 abbrev pub rails : List ℕ
 rails = 7 ∷ 5 ∷ 4 ∷ 13 ∷ 6 ∷ 4 ∷ 3 ∷ 2 ∷ []
 
+-- all worked cases
 pub record Worked : Type 0 where
   -- bars of 12 with three classes
   pub bars-answer : answers (bars 12 3) new-ledger rails ≡
