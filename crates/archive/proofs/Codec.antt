@@ -1,22 +1,20 @@
 -- The two theorems on whole lines: what is written reads back, and what reads was written. Assumes nothing.
 use mathlib.Core.Path.{_≡_, refl, sym, ap, _∙_, subst}
 use mathlib.Core.Bool.{Bool, true, false, cond}
-use mathlib.Core.List.{List, [], _∷_, _++_, append-assoc, map}
-use mathlib.Core.Logic.{_⊎_, inl, inr, ⊎-elim}
-use Prim.Native.Nat.{ℕ, zero, suc, _+_, _*_, _/_, _%_, _^_, _<_, _≤_}
+use mathlib.Core.List.{List, [], _∷_, _++_, map}
+use mathlib.Core.Logic.{inl, inr}
+use Prim.Native.Nat.{ℕ, suc, _+_, _*_, _/_, _%_, _^_, _<_, _≤_}
 use native.Mathlib.Omega.{arith}
-use lib.Dec.{eqb, ltb, leb}
+use lib.Dec.{eqb}
 use lib.Pow.{pow-mono}
-use lib.ListN.{length, take, drop, getD, length-append, length-drop}
+use lib.ListN.{length, take, drop, getD, length-drop}
 use lib.Seq.{take-add}
-use Rattle.std.specs.shelf.Digits.{number, Under}
-use Rattle.std.specs.shelf.Lists.{All}
+use Rattle.std.specs.shelf.Digits.{number}
 use Rattle.std.specs.Iters.{counting}
 use Rattle.std.proofs.shelf.Counted.{fill-by-all}
-use Rattle.std.proofs.shelf.Digits.{number-lt}
-use Rattle.std.proofs.shelf.Lists.{append-nil, take-at, drop-at, length-take-le}
+use Rattle.std.proofs.shelf.Lists.{length-take-le}
 use Rattle.std.proofs.shelf.Elements.{all-take, all-drop}
-use Rattle.std.proofs.shelf.Tests.{cond-true, cond-false, eq-eqb, ne-eqb, le-ltb, lt-ltb, lt-leb, eqb-true, eqb-false, ltb-false, leb-false, cases-eq, cases-lt, cases-bool}
+use Rattle.std.proofs.shelf.Tests.{cond-true, cond-false, le-ltb, lt-ltb, lt-leb, ltb-false, leb-false, cases-lt}
 use Rattle.std.specs.declared.result.Result.{Result}
 use Rattle.std.specs.declared.result.Result.the-variants.{Ok, Err}
 use Rattle.archive.specs.declared.line.PlaceLine.{PlaceLine}
@@ -25,11 +23,10 @@ use Rattle.archive.specs.declared.line.HeadingLine.{HeadingLine}
 use Rattle.archive.specs.declared.line.Line.{Line}
 use Rattle.archive.specs.declared.line.Line.the-variants.{Place, Closing, Heading}
 use Rattle.refusals.specs.declared.ReadRefusal.{ReadRefusal}
-use Rattle.refusals.specs.declared.ReadRefusal.the-variants.{Ended, NoField, Zero}
 use Rattle.archive.specs.Fields.{bytes-of, mask, written, map-bits, Fit, encoded, fields}
-use Rattle.archive.specs.Lines.{Field, place-fields, closing-fields, heading-fields, widths-of, values-of, tag, values, widths-by, Fits, encode, map-of, Parsed, of-sort, parsed, by-tag, decode, told, Reads, Reads-as, Bytes, Front}
-use Rattle.archive.proofs.Numbers.{length-bytes-of, number-bytes-of, bytes-of-number, mask-lt}
-use Rattle.archive.proofs.Reading.{fields-written, Told, fields-told, not-refused}
+use Rattle.archive.specs.Lines.{place-fields, closing-fields, heading-fields, widths-of, values-of, tag, values, widths-by, Fits, encode, map-of, Parsed, of-sort, parsed, by-tag, decode, told, Reads-as, Bytes, Front}
+use Rattle.archive.proofs.Numbers.{number-bytes-of, bytes-of-number, mask-lt}
+use Rattle.archive.proofs.Reading.{fields-written, fields-told, not-refused}
 
 -- as many values as widths
 pub fit-length : (ws vs : List ℕ) → Fit ws vs → length vs ≡ length ws

@@ -2,23 +2,22 @@
 use mathlib.Core.Path.{_≡_, refl, sym, ap, _∙_}
 use mathlib.Core.Bool.{Bool, true, false, cond}
 use mathlib.Core.List.{List, [], _∷_, _++_, append-assoc}
-use mathlib.Core.Logic.{_⊎_, inl, inr, ⊎-elim}
-use Prim.Native.Nat.{ℕ, zero, suc, _+_, _*_, _/_, _%_, _^_, _<_, _≤_}
+use mathlib.Core.Logic.{_⊎_, ⊎-elim}
+use Prim.Native.Nat.{ℕ, _+_, _*_, _/_, _%_, _^_, _<_, _≤_}
 use native.Mathlib.Omega.{arith}
 use native.Mathlib.Nat.{pow-suc, pow-le-pow-right}
 use lib.Dec.{eqb, ltb}
-use lib.ListN.{length, take, drop, getD, length-append, length-drop}
+use lib.ListN.{length, take, drop, length-append, length-drop}
 use lib.Seq.{take-add}
 use Rattle.std.specs.shelf.Digits.{number, Under}
-use Rattle.std.specs.shelf.Lists.{All}
 use Rattle.std.proofs.shelf.Digits.{number-lt}
 use Rattle.std.proofs.shelf.Lists.{append-nil, take-at, drop-at, length-take-le}
 use Rattle.std.proofs.shelf.Elements.{all-take, all-drop}
-use Rattle.std.proofs.shelf.Tests.{cond-true, cond-false, eq-eqb, ne-eqb, le-ltb, lt-ltb, eqb-true, eqb-false, ltb-false, cases-eq, cases-bool}
+use Rattle.std.proofs.shelf.Tests.{cond-true, cond-false, eq-eqb, ne-eqb, le-ltb, lt-ltb, eqb-false, ltb-false, cases-eq}
 use Rattle.std.specs.declared.result.Result.{Result}
 use Rattle.std.specs.declared.result.Result.the-variants.{Ok, Err}
 use Rattle.refusals.specs.declared.ReadRefusal.{ReadRefusal}
-use Rattle.refusals.specs.declared.ReadRefusal.the-variants.{Ended, NoField, Zero}
+use Rattle.refusals.specs.declared.ReadRefusal.the-variants.{Ended, Zero}
 use Rattle.archive.specs.Fields.{bytes-of, mask, written, Fit, fields}
 use Rattle.archive.proofs.Numbers.{length-bytes-of, number-bytes-of, bytes-of-number, mask-without, mask-with, written-without, written-with}
 

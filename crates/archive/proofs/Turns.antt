@@ -2,10 +2,10 @@
 use mathlib.Core.Path.{_≡_, refl, sym, ap, _∙_}
 use mathlib.Core.Bool.{Bool, true, false, cond}
 use mathlib.Core.List.{List, [], _∷_, _++_, map, append-assoc}
-use mathlib.Core.Logic.{_⊎_, inl, inr, ⊎-elim}
-use Prim.Native.Nat.{ℕ, zero, suc, _+_, _-_, _*_, _/_, _%_, _^_, _<_, _≤_}
+use mathlib.Core.Logic.{_⊎_, ⊎-elim}
+use Prim.Native.Nat.{ℕ, _+_, _-_, _*_, _/_, _%_, _^_, _<_, _≤_}
 use native.Mathlib.Omega.{arith}
-use native.Mathlib.Nat.{pow-suc, pow-le-pow-right, add-zero}
+use native.Mathlib.Nat.{pow-suc, pow-le-pow-right}
 use native.Mathlib.Numerals.{add-one}
 use lib.Dec.{eqb, ltb}
 use lib.ListN.{length, take, drop, getD, set, length-drop}
@@ -14,7 +14,7 @@ use Rattle.std.specs.shelf.Digits.{number}
 use Rattle.std.proofs.shelf.Digits.{number-more}
 use Rattle.std.proofs.shelf.Lists.{take-more-set, drop-more, getD-drop, drop-drop, getD-at, length-push}
 use Rattle.std.proofs.shelf.Elements.{all-from-getD, all-drop}
-use Rattle.std.proofs.shelf.Tests.{le-leb, lt-leb, cond-true, cond-false, eq-eqb, ne-eqb, le-ltb, lt-ltb, eqb-true, eqb-false, ltb-false, cases-eq, cases-bool}
+use Rattle.std.proofs.shelf.Tests.{le-leb, lt-leb, cond-true, cond-false, eq-eqb, ne-eqb, le-ltb, lt-ltb, ltb-false, cases-eq}
 use Rattle.std.specs.declared.result.Result.{Result}
 use Rattle.std.specs.declared.result.Result.the-variants.{Ok, Err}
 use Rattle.refusals.specs.declared.ReadRefusal.{ReadRefusal}

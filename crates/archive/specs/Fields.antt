@@ -1,6 +1,6 @@
 -- Numbers as bytes, and the fields of any sort of line: a list of widths and a list of values. Assumes nothing.
 use mathlib.Core.Path.{_≡_}
-use mathlib.Core.Bool.{Bool, true, false, cond}
+use mathlib.Core.Bool.{Bool, cond}
 use mathlib.Core.List.{List, [], _∷_, _++_}
 use Prim.Native.Nat.{ℕ, zero, suc, _+_, _*_, _/_, _%_, _^_, _<_}
 use lib.Dec.{eqb, ltb}
@@ -9,7 +9,7 @@ use Rattle.std.specs.shelf.Digits.{number}
 use Rattle.std.specs.declared.result.Result.{Result}
 use Rattle.std.specs.declared.result.Result.the-variants.{Ok, Err}
 use Rattle.refusals.specs.declared.ReadRefusal.{ReadRefusal}
-use Rattle.refusals.specs.declared.ReadRefusal.the-variants.{Ended, NoField, Zero}
+use Rattle.refusals.specs.declared.ReadRefusal.the-variants.{Ended, Zero}
 
 -- v as w bytes, high byte first
 abbrev pub bytes-of : ℕ → ℕ → List ℕ

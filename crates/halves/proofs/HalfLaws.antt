@@ -1,8 +1,8 @@
 -- Halves are lawful. Assumes nothing.
 use mathlib.Core.Path.{_≡_, refl, sym, ap, subst, _∙_}
 use mathlib.Core.Bool.{Bool, true, false, cond, _&&_}
-use mathlib.Core.List.{List, [], _∷_, _++_}
-use mathlib.Core.Logic.{_⊎_, inl, inr}
+use mathlib.Core.List.{List, [], _∷_}
+use mathlib.Core.Logic.{inl, inr}
 use Prim.Native.Nat.{ℕ, _+_, _*_, _^_, _≤_, _<_}
 use native.Mathlib.Omega.{arith}
 use lib.Dec.{eqb, leb}
@@ -12,11 +12,11 @@ use Rattle.std.specs.declared.option.Option.{Option}
 use Rattle.std.specs.declared.option.Option.the-variants.{Some, None}
 use Rattle.std.proofs.shelf.Elements.{all-push, all-weaker}
 use Rattle.std.proofs.shelf.Sums.{sumBy-cons, sumBy-push}
-use Rattle.std.proofs.shelf.Tests.{cases-bool, leb-true, leb-false, lt-leb, le-leb, eq-eqb, ne-eqb, and-parts, and-from, and-right, and-left, true≢false}
+use Rattle.std.proofs.shelf.Tests.{cases-bool, leb-true, leb-false, lt-leb, le-leb, eq-eqb, ne-eqb, and-parts, and-right, and-left}
 use Rattle.kinds.specs.declared.piece.Piece.{Piece}
 use Rattle.refusals.specs.declared.PieceRefusal.{PieceRefusal}
 use Rattle.refusals.specs.declared.PieceRefusal.the-variants.{First}
-use Rattle.kinds.specs.Kind.{Lawful, Admitted, ClassOf, Built, none-yet, one-more, level, weights, fits-after, between}
+use Rattle.kinds.specs.Kind.{Lawful, Admitted, ClassOf, Built, none-yet, one-more, level, weights, fits-after}
 use Rattle.halves.specs.Halving.{sized, halves}
 
 never : {A : Type 0} → _≡_ {A = ℕ} 0 1 → A

@@ -1,27 +1,26 @@
 -- Strips are lawful. Assumes nothing.
 use mathlib.Core.Path.{_≡_, refl, sym, ap, subst, _∙_}
-use mathlib.Core.Bool.{Bool, true, false, cond, not, _&&_, _||_}
+use mathlib.Core.Bool.{true, false, cond, not, _&&_}
 use mathlib.Core.List.{List, [], _∷_, _++_}
 use mathlib.Core.Logic.{_⊎_, inl, inr}
-use Prim.Native.Nat.{ℕ, zero, suc, _+_, _-_, _*_, _/_, _^_, _≤_, _<_}
-use native.Mathlib.Nat.{mul-comm, mul-assoc, mul-add, mul-le-mul, mul-le-mul-left, mul-le-mul-right, add-mul, pow-succ'}
+use Prim.Native.Nat.{ℕ, _+_, _-_, _*_, _^_, _≤_, _<_}
+use native.Mathlib.Nat.{mul-comm, mul-assoc, mul-le-mul, mul-le-mul-left, mul-le-mul-right, add-mul}
 use native.Mathlib.Omega.{arith}
-use lib.Dec.{eqb, ltb, leb}
+use lib.Dec.{eqb, leb}
 use lib.ListN.{length}
 use lib.Pow.{pow-mono, pow-pos}
 use Rattle.std.specs.shelf.Lists.{sumBy, All}
-use Rattle.std.specs.declared.option.Option.{Option}
 use Rattle.std.specs.declared.option.Option.the-variants.{Some, None}
 use Rattle.std.proofs.shelf.Lists.{nil-from-length}
 use Rattle.std.proofs.shelf.Sums.{sumBy-cons, sumBy-push}
 use Rattle.std.proofs.shelf.Elements.{all-push, all-weaker}
 use Rattle.std.proofs.shelf.Ways.{tells}
-use Rattle.std.proofs.shelf.Tests.{cases-bool, leb-true, leb-false, eqb-true, eqb-false, le-leb, lt-leb, and-parts, and-from, or-parts, not-true, not-false, true≢false, ltb-false, and-right, or-right, lt-ltb, cases-lt}
+use Rattle.std.proofs.shelf.Tests.{cases-bool, leb-true, leb-false, eqb-true, eqb-false, le-leb, lt-leb, and-parts, true≢false, and-right, cases-lt}
 use Rattle.kinds.specs.declared.piece.Piece.{Piece}
 use Rattle.refusals.specs.declared.PieceRefusal.the-variants.{Finish, First, Second}
-use Rattle.kinds.specs.Kind.{Meaning, Lawful, Admitted, ClassOf, Built, one-more, none-yet, level, weights, full-with, fits-after, at-first, told, between}
+use Rattle.kinds.specs.Kind.{Lawful, Admitted, ClassOf, Built, one-more, none-yet, level, weights, fits-after, told, between}
 use Rattle.kinds.specs.Strips.{rank, narrow, wide, row-height, strip-refusal, area, strips}
-use Rattle.kinds.proofs.Told.{told-no, told-same, is-between, above, below}
+use Rattle.kinds.proofs.Told.{told-no, told-same, is-between, above}
 use Rattle.kinds.proofs.Ranks.{rank-most, rank-enough, rank-half}
 
 -- a width and a height against a row of twice the one and half the other

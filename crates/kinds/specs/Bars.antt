@@ -1,7 +1,6 @@
 -- Bars of one capacity, in k harmonic classes. Assumes nothing.
 use mathlib.Core.Path.{_≡_}
-use mathlib.Core.Bool.{Bool, false, cond, not, _&&_, _||_}
-use mathlib.Core.List.{List}
+use mathlib.Core.Bool.{false, cond, not, _&&_}
 use Prim.Native.Nat.{ℕ, _+_, _*_, _/_, _≤_, min}
 use lib.Dec.{eqb, ltb, leb}
 use Rattle.std.specs.shelf.Lists.{sumBy, All}

@@ -1,7 +1,6 @@
 -- Strips of one width, cut into rows whose heights are powers of two. Assumes nothing.
 use mathlib.Core.Path.{_≡_}
 use mathlib.Core.Bool.{Bool, false, cond, not, _&&_}
-use mathlib.Core.List.{List}
 use Prim.Native.Nat.{ℕ, zero, suc, _+_, _-_, _*_, _^_, _≤_}
 use lib.Dec.{eqb, leb}
 use Rattle.std.specs.shelf.Lists.{sumBy, All}

@@ -1,6 +1,5 @@
 -- Totes: bars that hold at most K pieces. Assumes nothing.
-use mathlib.Core.Bool.{Bool, false, cond, not, _&&_}
-use mathlib.Core.List.{List}
+use mathlib.Core.Bool.{false, cond, not, _&&_}
 use Prim.Native.Nat.{ℕ, _+_, _*_, _/_, _≤_}
 use lib.Dec.{ltb, leb}
 use lib.ListN.{length}

@@ -1,16 +1,13 @@
 -- An allowance over a lawful kind is lawful. Assumes nothing.
-use mathlib.Core.Path.{_≡_, refl, sym, ap, subst, _∙_}
-use mathlib.Core.Bool.{Bool, true, false, cond, _&&_}
-use mathlib.Core.List.{List, [], _∷_, _++_, map}
-use Prim.Native.Nat.{ℕ, _+_, _*_, _≤_, _<_}
+use mathlib.Core.Path.{_≡_, sym, ap, subst, _∙_}
+use mathlib.Core.Bool.{false, cond}
+use mathlib.Core.List.{List, map}
+use Prim.Native.Nat.{ℕ, _+_}
 use native.Mathlib.Omega.{arith}
-use lib.Dec.{leb}
-use lib.ListN.{length}
-use Rattle.std.specs.shelf.Lists.{sumBy, All}
 use Rattle.std.proofs.shelf.Lists.{map-push, length-map}
 use Rattle.std.proofs.shelf.Tests.{lt-leb, and-left, and-right}
 use Rattle.kinds.specs.declared.piece.Piece.{Piece}
-use Rattle.kinds.specs.Kind.{Meaning, Lawful, Admitted, Built, one-more, none-yet, level, weights, full-with, fits-after, at-first, between}
+use Rattle.kinds.specs.Kind.{Meaning, Lawful, Admitted, Built, one-more, none-yet, full-with, fits-after, at-first, between}
 use Rattle.layers.specs.Allowance.{widened, allowance}
 use Rattle.layers.proofs.Mapped.{all-unmap, sum-over-map}
 

@@ -1,15 +1,14 @@
 -- Finishes over a lawful kind are lawful. Assumes nothing.
 use mathlib.Core.Path.{_≡_, refl, sym, ap, subst, _∙_}
 use mathlib.Core.Bool.{Bool, true, false, cond, _&&_}
-use mathlib.Core.List.{List, [], _∷_, _++_, map}
-use mathlib.Core.Logic.{_⊎_, inl, inr}
-use Prim.Native.Nat.{ℕ, zero, suc, _+_, _-_, _*_, _/_, _%_, _≤_, _<_, min}
+use mathlib.Core.List.{List, [], _∷_, map}
+use mathlib.Core.Logic.{inl, inr}
+use Prim.Native.Nat.{ℕ, suc, _+_, _-_, _*_, _/_, _%_, _≤_, _<_}
 use native.Mathlib.Nat.{mod-eq-of-lt, mul-add-mod-self-right, mul-add-div-right, div-eq-of-lt, div-lt-iff-lt-mul, mod-lt, mul-le-mul-right, suc-mul, one-mul, div-mul-le-self}
 use native.Mathlib.Omega.{arith}
-use lib.Dec.{leb, ltb, eqb}
+use lib.Dec.{leb, ltb}
 use lib.ListN.{length}
 use Rattle.std.specs.shelf.Lists.{sumBy, All}
-use Rattle.std.specs.declared.option.Option.{Option}
 use Rattle.std.specs.declared.option.Option.the-variants.{Some, None}
 use Rattle.std.proofs.shelf.Bits.{le-div}
 use Rattle.std.proofs.shelf.Lists.{map-push, length-map}
@@ -18,8 +17,8 @@ use Rattle.std.proofs.shelf.Elements.{all-push}
 use Rattle.std.proofs.shelf.Tests.{lt-ltb, ltb-true, le-leb, leb-true, ne-eqb, and-parts, and-from, and-right, cases-bool, true≢false}
 use Rattle.kinds.specs.declared.piece.Piece.{Piece}
 use Rattle.refusals.specs.declared.PieceRefusal.the-variants.{Finish}
-use Rattle.kinds.specs.Kind.{Meaning, Lawful, Admitted, ClassOf, Built, one-more, none-yet, level, weights, full-with, fits-after, at-first}
-use Rattle.layers.specs.Finishes.{plain, below, has-class, raised, finishes-by, reckoned, finishes}
+use Rattle.kinds.specs.Kind.{Meaning, Lawful, Admitted, ClassOf, Built, one-more, none-yet, level, full-with, fits-after}
+use Rattle.layers.specs.Finishes.{plain, below, has-class, finishes-by, reckoned, finishes}
 
 -- classes in rows of n
 row-rest : (n f k : ℕ) → 1 ≤ k → k ≤ n → (f * n + k - 1) % n + 1 ≡ k

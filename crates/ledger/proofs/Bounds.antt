@@ -1,24 +1,17 @@
 -- No number of a packer outgrows its field. Assumes nothing.
-use mathlib.Core.Path.{_≡_, refl, sym, ap, subst, _∙_}
-use mathlib.Core.Bool.{Bool, true, false, cond}
-use mathlib.Core.List.{List, [], _∷_, _++_}
-use mathlib.Core.Logic.{_⊎_, inl, inr}
+use mathlib.Core.Path.{_≡_, sym, subst}
+use mathlib.Core.Logic.{inl, inr}
 use Prim.Native.Nat.{ℕ, _+_, _-_, _*_, _^_, _≤_, _<_}
 use native.Mathlib.Nat.{mul-le-mul-right, add-mul, one-mul}
 use native.Mathlib.Omega.{arith}
-use lib.Dec.{eqb}
 use lib.ListN.{length, getD, set, replicate}
-use Rattle.std.specs.declared.result.Result.{Result}
-use Rattle.std.specs.declared.result.Result.the-variants.{Ok, Err}
 use Rattle.std.proofs.shelf.Lists.{getD-replicate, getD-past, getD-set-same, getD-set-other, length-set}
 use Rattle.std.proofs.shelf.Tests.{cond-both, cases-lt, cases-eq, leb-true, and-parts}
 use Rattle.kinds.specs.declared.piece.Piece.{Piece}
-use Rattle.refusals.specs.declared.PutRefusal.{PutRefusal}
-use Rattle.ledger.specs.declared.Placing.{Placing}
 use Rattle.ledger.specs.declared.Slot.{Slot}
 use Rattle.ledger.specs.declared.Ledger.{Ledger}
 use Rattle.kinds.specs.Kind.{Meaning, Lawful, Admitted}
-use Rattle.ledger.specs.Rules.{open-in, stands, nothing, new-ledger, found, goes-on, taking, taken, closes-after, placing, put-answer, ledger-after, ledger-by, Call, Ran, made, then-put, then-report}
+use Rattle.ledger.specs.Rules.{nothing, new-ledger, goes-on, taking, taken, closes-after, ledger-after}
 use Rattle.ledger.specs.Bounded.{Within, Bounded}
 
 pub cost-bounded : (m : Meaning) → Lawful m → (p : Piece) → Admitted m p → m .cost (m .class p) ≤ 2 ^ 44

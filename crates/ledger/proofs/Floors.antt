@@ -1,6 +1,5 @@
 -- The floor is the least number whose product with the ceiling is at least the weight. Assumes nothing.
-use mathlib.Core.Path.{_≡_}
-use Prim.Native.Nat.{ℕ, suc, _+_, _-_, _*_, _/_, _%_, _≤_, _<_}
+use Prim.Native.Nat.{ℕ, suc, _+_, _-_, _*_, _≤_, _<_}
 use native.Mathlib.Nat.{div-add-mod, mod-lt, div-lt-iff-lt-mul, suc-mul, mul-comm}
 use native.Mathlib.Omega.{arith}
 use Rattle.ledger.specs.Rules.{floor-of}

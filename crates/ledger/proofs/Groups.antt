@@ -1,19 +1,18 @@
 -- One more placed piece, and the groups by container number. Assumes nothing.
 use mathlib.Core.Path.{_≡_, refl, sym, ap, subst, _∙_}
-use mathlib.Core.Bool.{Bool, true, false, cond, not}
-use mathlib.Core.List.{List, [], _∷_, _++_, map}
+use mathlib.Core.Bool.{Bool, cond, not}
+use mathlib.Core.List.{List, [], _∷_, _++_}
 use mathlib.Core.Logic.{_⊎_, inl, inr}
-use Prim.Native.Nat.{ℕ, zero, suc, _+_, _*_, _≤_, _<_}
+use Prim.Native.Nat.{ℕ, _+_, _≤_, _<_}
 use native.Mathlib.Omega.{arith}
 use lib.Dec.{eqb}
 use lib.ListN.{length}
-use Rattle.std.specs.shelf.Lists.{sumBy, All, joined, kept-by}
+use Rattle.std.specs.shelf.Lists.{All, joined, kept-by}
 use Rattle.std.specs.shelf.Sorted.{Shuffled}
 use Rattle.std.proofs.shelf.Lists.{map-append, append-nil}
-use Rattle.std.proofs.shelf.Elements.{kept-by-append, all-weaker}
+use Rattle.std.proofs.shelf.Elements.{kept-by-append}
 use Rattle.std.proofs.shelf.Sorted.{shuffled-refl, shuffled-trans, shuffled-cons}
 use Rattle.std.proofs.shelf.Tests.{cases-bool, eq-eqb, ne-eqb, eqb-true, eqb-false}
-use Rattle.kinds.specs.declared.piece.Piece.{Piece}
 use Rattle.ledger.specs.Rules.{upto}
 use Rattle.ledger.specs.Season.{Placed, pieces-of, pieces-in, class-in, numbers}
 use Rattle.ledger.proofs.Uptos.{joined-none, joined-change}

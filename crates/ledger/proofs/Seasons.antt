@@ -1,14 +1,13 @@
 -- Every season over a lawful kind keeps its promise. Assumes nothing.
 use mathlib.Core.Path.{_≡_, refl, sym, ap, subst, _∙_}
-use mathlib.Core.Bool.{Bool, true, false, cond, not, _&&_, _||_}
-use mathlib.Core.List.{List, [], _∷_, _++_, map}
+use mathlib.Core.Bool.{Bool, true, false, cond, _&&_, _||_}
+use mathlib.Core.List.{List, [], _∷_, _++_}
 use mathlib.Core.Logic.{_⊎_, inl, inr}
-use Prim.Native.Nat.{ℕ, zero, suc, _+_, _-_, _*_, _≤_, _<_, max}
+use Prim.Native.Nat.{ℕ, suc, _+_, _-_, _*_, _≤_, _<_}
 use native.Mathlib.Nat.{mul-add, mul-zero, mul-le-mul-left}
 use native.Mathlib.Numerals.{add-one}
 use native.Mathlib.Omega.{arith}
 use lib.Dec.{eqb, leb, ltb}
-use lib.ListN.{length, getD, set, replicate}
 use Rattle.std.specs.shelf.Lists.{sumBy, All, joined}
 use Rattle.std.specs.shelf.Sorted.{Shuffled}
 use Rattle.std.specs.declared.option.Option.{Option}
@@ -18,8 +17,8 @@ use Rattle.std.specs.declared.result.Result.the-variants.{Ok, Err}
 use Rattle.std.proofs.shelf.Lists.{joined-more, append-nil, getD-replicate, length-push}
 use Rattle.std.proofs.shelf.Elements.{all-weaker, all-map}
 use Rattle.std.proofs.shelf.Sums.{sumBy-push, sumBy-append, sumBy-cons}
-use Rattle.std.proofs.shelf.Sorted.{sumBy-shuffled, shuffled-sym}
-use Rattle.std.proofs.shelf.Tests.{cases-eq, cases-lt, cases-bool, leb-false, le-leb, true≢false, and-parts, and-cases, and-right}
+use Rattle.std.proofs.shelf.Sorted.{sumBy-shuffled}
+use Rattle.std.proofs.shelf.Tests.{cases-bool, leb-false, le-leb, true≢false, and-parts, and-right}
 use Rattle.kinds.specs.declared.piece.Piece.{Piece}
 use Rattle.refusals.specs.declared.PieceRefusal.{PieceRefusal}
 use Rattle.refusals.specs.declared.PutRefusal.{PutRefusal}
@@ -27,13 +26,13 @@ use Rattle.refusals.specs.declared.PutRefusal.the-variants.{NoNumber, NotAdmitt
 use Rattle.ledger.specs.declared.Placing.{Placing}
 use Rattle.ledger.specs.declared.Slot.{Slot}
 use Rattle.ledger.specs.declared.Ledger.{Ledger}
-use Rattle.kinds.specs.Kind.{Meaning, Lawful, Admitted, ClassOf, Built, one-more, none-yet, level, weights, full-with, fits-after}
-use Rattle.ledger.specs.Rules.{upto, floor-of, open-in, stands, nothing, new-ledger, found, fits-found, goes-on, taking, placing, closings, closes-after, kind-answer, late-answer, put-answer, ledger-after, ledger-by, put-ledger, report, Call, a-put, a-report, Ran, made, then-put, then-report}
+use Rattle.kinds.specs.Kind.{Meaning, Lawful, Admitted, Built, one-more, none-yet, level, weights, full-with, fits-after}
+use Rattle.ledger.specs.Rules.{upto, floor-of, open-in, stands, nothing, new-ledger, found, fits-found, goes-on, taking, placing, closings, closes-after, kind-answer, put-answer, ledger-after, ledger-by, report, Call, a-put, a-report, Ran, made, then-put, then-report}
 use Rattle.ledger.specs.Season.{Container, AllowedContainer, AllowedPacking, cost-of, standing-cost, Placed, placed-by, placed, pieces-of, pieces-in, class-in, numbers, container-in, grouped, Season}
 use Rattle.ledger.specs.Season.{Cap-idle}
 use Rattle.ledger.proofs.Floors.{floor-covers, floor-least}
 use Rattle.ledger.proofs.Uptos.{all-upto, sum-same, sum-le, sum-past, sum-over-map, joined-over-map}
-use Rattle.ledger.proofs.Groups.{push, pieces-push-same, class-push-found, class-push-other, class-push-new, pieces-none, numbers-push-new, numbers-push-found, regrouped}
+use Rattle.ledger.proofs.Groups.{push, class-push-found, class-push-new, pieces-none, numbers-push-new, numbers-push-found, regrouped}
 use Rattle.ledger.proofs.Sound.{open-weight, open-cost-in, Tells, Open, Group, Sound, placed-in, Ready}
 use Rattle.ledger.proofs.Step.{stepped}
 

@@ -1,14 +1,14 @@
 -- What holds of a ledger after the pieces qs were placed. Assumes nothing.
 use mathlib.Core.Path.{_≡_}
-use mathlib.Core.Bool.{Bool, true, false, cond}
-use mathlib.Core.List.{List, [], _∷_, _++_}
+use mathlib.Core.Bool.{true, false, cond}
+use mathlib.Core.List.{List}
 use Prim.Native.Nat.{ℕ, _+_, _*_, _≤_, _<_}
 use lib.ListN.{length}
 use Rattle.std.specs.shelf.Lists.{sumBy, All}
 use Rattle.kinds.specs.declared.piece.Piece.{Piece}
 use Rattle.ledger.specs.declared.Slot.{Slot}
 use Rattle.ledger.specs.declared.Ledger.{Ledger}
-use Rattle.kinds.specs.Kind.{Meaning, Admitted, ClassOf, Built, level, weights, full-with, fits-after}
+use Rattle.kinds.specs.Kind.{Meaning, Built, level, weights, full-with, fits-after}
 use Rattle.ledger.specs.Rules.{upto, open-in, stands}
 use Rattle.ledger.specs.Season.{Placed, pieces-of, pieces-in, class-in, numbers}
 use Rattle.ledger.proofs.Groups.{push}

@@ -1,14 +1,12 @@
 -- One accepted put keeps the ledger sound. Assumes nothing.
 use mathlib.Core.Path.{_≡_, refl, sym, ap, subst, _∙_}
 use mathlib.Core.Bool.{Bool, true, false, cond, not}
-use mathlib.Core.List.{List, [], _∷_, _++_, map}
-use mathlib.Core.Logic.{_⊎_, inl, inr}
-use Prim.Native.Nat.{ℕ, zero, suc, _+_, _-_, _*_, _≤_, _<_}
+use mathlib.Core.List.{List, [], _∷_, _++_}
+use mathlib.Core.Logic.{inl, inr}
+use Prim.Native.Nat.{ℕ, _+_, _-_, _*_, _≤_, _<_}
 use native.Mathlib.Nat.{mul-add}
-use native.Mathlib.Numerals.{add-one}
 use native.Mathlib.Omega.{arith}
-use lib.Dec.{eqb}
-use lib.ListN.{length, getD, set}
+use lib.ListN.{length, set}
 use Rattle.std.specs.shelf.Lists.{sumBy, All}
 use Rattle.std.proofs.shelf.Lists.{length-set, getD-set-same, getD-set-other, length-push, map-push}
 use Rattle.std.proofs.shelf.Elements.{all-push, all-weaker}
@@ -17,11 +15,11 @@ use Rattle.std.proofs.shelf.Tests.{cases-eq, ne-eqb, true≢false}
 use Rattle.kinds.specs.declared.piece.Piece.{Piece}
 use Rattle.ledger.specs.declared.Slot.{Slot}
 use Rattle.ledger.specs.declared.Ledger.{Ledger}
-use Rattle.kinds.specs.Kind.{Meaning, Lawful, Admitted, ClassOf, Built, one-more, none-yet, level, weights, full-with, fits-after}
+use Rattle.kinds.specs.Kind.{Meaning, Lawful, Admitted, Built, one-more, level, weights, full-with}
 use Rattle.ledger.specs.Rules.{upto, open-in, stands, nothing}
-use Rattle.ledger.specs.Season.{Placed, pieces-of, pieces-in, class-in, numbers}
-use Rattle.ledger.proofs.Uptos.{sum-same, sum-change}
-use Rattle.ledger.proofs.Groups.{push, pieces-push-same, pieces-push-other, class-push-found, class-push-other, class-push-new, pieces-none}
+use Rattle.ledger.specs.Season.{Placed, pieces-of, pieces-in, class-in}
+use Rattle.ledger.proofs.Uptos.{sum-change}
+use Rattle.ledger.proofs.Groups.{push, pieces-push-same, pieces-push-other, class-push-found, class-push-other}
 use Rattle.ledger.proofs.Sound.{open-weight, open-cost-in, Tells, Open, Group, Sound, placed-in, Ready}
 
 abbrev taken-by : Meaning → Piece → Slot → Slot

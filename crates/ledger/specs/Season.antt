@@ -1,16 +1,13 @@
 -- What a season's calls and answers owe their reader. Assumes nothing.
 use mathlib.Core.Path.{_≡_}
-use mathlib.Core.Bool.{Bool, true, cond, not}
-use mathlib.Core.List.{List, [], _∷_, _++_, map}
+use mathlib.Core.Bool.{true, cond, not}
+use mathlib.Core.List.{List, [], _∷_, map}
 use Prim.Native.Nat.{ℕ, _+_, _*_, _≤_}
 use lib.Dec.{eqb}
 use Rattle.std.specs.shelf.Lists.{sumBy, All, joined, kept-by}
 use Rattle.std.specs.shelf.Sorted.{Shuffled}
-use Rattle.std.specs.declared.result.Result.{Result}
 use Rattle.std.specs.declared.result.Result.the-variants.{Ok, Err}
 use Rattle.kinds.specs.declared.piece.Piece.{Piece}
-use Rattle.refusals.specs.declared.PutRefusal.{PutRefusal}
-use Rattle.ledger.specs.declared.Placing.{Placing}
 use Rattle.ledger.specs.declared.Report.{Report}
 use Rattle.kinds.specs.Kind.{Meaning, Admitted}
 use Rattle.ledger.specs.declared.Ledger.{Ledger}

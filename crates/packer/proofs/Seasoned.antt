@@ -1,9 +1,9 @@
 -- A put as a step of a season, and the sum of a report. Assumes nothing.
-use mathlib.Core.Path.{_≡_, refl, sym, ap, subst, _∙_}
-use mathlib.Core.Bool.{Bool, true, false, cond, not}
+use mathlib.Core.Path.{_≡_, sym, ap, subst, _∙_}
+use mathlib.Core.Bool.{cond, not}
 use mathlib.Core.List.{List, [], _∷_, _++_}
-use mathlib.Core.Logic.{_⊎_, inl, inr, ∥∥₁-elim}
-use Prim.Native.Nat.{ℕ, suc, _+_, _-_, _*_, _^_, _≤_, _<_}
+use mathlib.Core.Logic.{_⊎_, inl, inr}
+use Prim.Native.Nat.{ℕ, suc, _+_, _-_, _^_, _≤_}
 use native.Mathlib.Nat.{mul-le-mul-right, one-mul, add-zero}
 use native.Mathlib.Numerals.{add-one}
 use native.Mathlib.Omega.{arith}
@@ -13,14 +13,13 @@ use Rattle.std.specs.declared.result.Result.{Result}
 use Rattle.std.proofs.shelf.Sums.{sumBy-push}
 use Rattle.std.proofs.shelf.Tests.{cases-lt, ne-eqb, eq-eqb}
 use Rattle.kinds.specs.declared.piece.Piece.{Piece}
-use Rattle.ledger.specs.declared.Slot.{Slot}
 use Rattle.ledger.specs.declared.Ledger.{Ledger}
 use Rattle.ledger.specs.declared.Placing.{Placing}
 use Rattle.refusals.specs.declared.PutRefusal.{PutRefusal}
 use Rattle.kinds.specs.Kind.{Meaning, Lawful, ClassOf}
-use Rattle.ledger.specs.Rules.{Call, a-put, a-report, Ran, then-put, then-report, put-answer, put-ledger, stands, open-in, nothing, upto}
+use Rattle.ledger.specs.Rules.{Call, a-put, a-report, Ran, then-put, then-report, put-answer, put-ledger, stands, nothing, upto}
 use Rattle.ledger.specs.declared.Report.{Report}
-use Rattle.ledger.specs.Rules.{open-cost, floor-of, report as told-by}
+use Rattle.ledger.specs.Rules.{report as told-by}
 use Rattle.ledger.specs.Season.{Season, Least-floor}
 use Rattle.ledger.proofs.Floors.{floor-covers, floor-least}
 use Rattle.ledger.proofs.Seasons.{season}

@@ -14,12 +14,11 @@ use Rattle.kinds.specs.declared.piece.Piece.{Piece}
 use Rattle.kinds.specs.Kind.{Meaning}
 use Rattle.kinds.specs.Bars.{bars}
 use Rattle.kinds.specs.Totes.{totes}
-use Rattle.kinds.specs.Strips.{strips, rank}
+use Rattle.kinds.specs.Strips.{strips}
 use Rattle.layers.specs.Allowance.{allowance}
 use Rattle.layers.specs.Finishes.{finishes}
 use Rattle.ledger.specs.declared.Ledger.{Ledger}
 use Rattle.ledger.specs.declared.Placing.{Placing}
-use Rattle.ledger.specs.declared.Report.{Report}
 use Rattle.ledger.specs.Rules.{new-ledger, put-answer, put-ledger, report}
 
 -- a piece of these measures

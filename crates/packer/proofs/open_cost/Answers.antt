@@ -1,6 +1,5 @@
 use mathlib.Core.Path.{_≡_, ap, _∙_}
 use native.Mathlib.Omega.{arith}
-use Prim.Native.Nat.{_+_}
 use Rattle.std.specs.shelf.Lists.{sumBy}
 use Rattle.ledger.specs.Rules.{upto}
 use Rattle.ledger.proofs.Sound.{open-cost-in}

@@ -1,6 +1,6 @@
 use mathlib.Core.Path.{_≡_, refl}
 use native.Mathlib.Omega.{arith}
-use Prim.Native.Nat.{ℕ, _/_, _%_}
+use Prim.Native.Nat.{_/_, _%_}
 use Rattle.archive.specs.Lines.{decode, told}
 use Rattle.archive.proofs.Turns.{decoded, ended-map, no-sort, front-read}
 use Rattle.archive.proofs.reader.read.Needs as need

@@ -1,5 +1,5 @@
 use native.Mathlib.Omega.{arith}
-use Rattle.std.specs.declared.result.Result.the-variants.{Ok, Err}
+use Rattle.std.specs.declared.result.Result.the-variants.{Ok}
 use mathlib.Core.Path.{refl, ap, _∙_}
 use Rattle.archive.proofs.Turns.{parsed-over, parsed-fields, parsed-all}
 use Rattle.archive.proofs.reader.read_closing.Needs as need

@@ -1,6 +1,6 @@
 use mathlib.Core.Path.{_≡_, sym, ap, subst}
 use Prim.Native.Nat.{ℕ, _≤_, _-_, _*_}
-use Rattle.kinds.specs.Figures.{multiple, unit-factor}
+use Rattle.kinds.specs.Figures.{unit-factor}
 use Rattle.kinds.proofs.Factors.{figures}
 use Rattle.kinds.proofs.figures.unit_factor_of.Needs as need
 

@@ -1,4 +1,4 @@
-use mathlib.Core.Path.{_≡_, sym, subst}
+use mathlib.Core.Path.{sym, subst}
 use Prim.Native.Nat.{ℕ, _≤_, _^_}
 use Rattle.kinds.proofs.Ranks.{rank-digits, rank-enough, rank-least, rank-most}
 use Rattle.kinds.proofs.strips.rank_of.Needs as need

@@ -1,4 +1,4 @@
-use mathlib.Core.Path.{_≡_, refl, ap, _∙_, sym}
+use mathlib.Core.Path.{_≡_, ap, _∙_, sym}
 use Prim.Native.Nat.{_*_}
 use lib.Dec.{leb}
 use Rattle.std.proofs.shelf.Tests.{leb-true}

@@ -1,5 +1,5 @@
 use mathlib.Core.Path.{_≡_, sym, ap, subst, _∙_}
-use Prim.Native.Nat.{ℕ, _≤_, _*_, _/_, min}
+use Prim.Native.Nat.{_≤_, _*_, _/_, min}
 use Rattle.kinds.specs.Kind.{Meaning}
 use Rattle.layers.specs.Finishes.{reckoned}
 use Rattle.layers.proofs.FinishLaws.{reckoned-room}
