@@ -187,7 +187,7 @@ pub data Call : Type 0 where
   a-put : Piece → Result Placing PutRefusal → Call
   a-report : Report → Call
 
--- The calls h, made on a new packer over m in their order, were answered as h says and left s.
+-- Make the calls h one after another on a new packer over m: they get the answers that h has, and s is left.
 pub data Ran (m : Meaning) : List Call → Ledger → Type 0 where
   made : Ran m [] new-ledger
   then-put : {h : List Call} {s : Ledger} → Ran m h s → (p : Piece) (places closes : ℕ) → Ran m (h ++ (a-put p (put-answer m s p places closes) ∷ [])) (put-ledger m s p places closes)

@@ -33,7 +33,7 @@ pub record AllowedPacking (m : Meaning) (ps : List Piece) (ks : List Container) 
   pub each-allowed : All (AllowedContainer m) ks
   pub same-pieces : Shuffled (joined (λ k. k .pieces) ks) ps
 
--- the standing cost of a packer: the sum over its classes
+-- what one open container in every class would cost, at standing costs
 abbrev pub standing-cost : Meaning → ℕ
 standing-cost m = sumBy (m .standing) (upto (m .classes))
 
@@ -87,7 +87,7 @@ pub record Season (m : Meaning) (h : List Call) (r : Report) : Type 0 where
   pub one-class : All (λ q. q .class ≡ class-in (q .container) (placed h)) (placed h)
   pub packed : AllowedPacking m (pieces-of (placed h)) (grouped m (placed h))
   pub cost-used : cost-of (grouped m (placed h)) ≡ r .used
-  -- no allowed packing is cheaper than the floor
+  -- no other plan stays below the floor
   pub no-cheaper : (ks : List Container) → AllowedPacking m (pieces-of (placed h)) ks → r .floor ≤ cost-of ks
   -- how far the used cost can lie above it
   pub ratio : m .unit * r .used ≤ m .ceiling * r .floor + m .unit * standing-cost m

@@ -384,7 +384,7 @@ impl<K: Kind> Packer<K> {
         self.step(piece, places, closings)
     }
 
-    // The standing cost of the packer: the sum over its classes.
+    // What one open container in every class would cost, at standing costs.
     pub fn standing_cost(&self) -> u64
         ensures { λ r. ⌜ r ≡ standing-cost (K·Kind .meaning (now (self .entry) .kind)) ⌝ }
     {

@@ -22,7 +22,7 @@ pub enum PutRefusal {
     NotAdmitted(PieceRefusal),
     // the season has all its pieces
     SeasonFull,
-    // a list has fewer unwritten lines than the put would add
+    // one of the lists is too short for what the put would add
     ListFull,
 }
 
