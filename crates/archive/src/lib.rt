@@ -1,4 +1,6 @@
 // The archive: lines as bytes, and bytes as lines.
+#![tactic(auto)]
+
 pub mod line;
 pub mod reader;
 mod table;

@@ -1,4 +1,6 @@
 // Seasons of drawn pieces, as a static library for the benchmark: bench/run.
+#![tactic(auto)]
+
 ghost use Rattle.std.specs.Prelude.{◌≡◌};
 ghost use Rattle.kinds.specs.Bars.{bars};
 ghost use Rattle.kinds.specs.Totes.{totes};

@@ -1,4 +1,6 @@
 // Runs what the reference program runs, and prints the same: docs/DRAWN.md.
+#![tactic(auto)]
+
 use crate::readings::{SAMPLES, maps, reading, spoilt};
 use crate::seasons::{Long, season};
 use crate::text::{START, sum_line, sum_of};

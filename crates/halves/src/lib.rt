@@ -1,5 +1,7 @@
 // A kind from outside: containers of two halves, in which a piece is one half or a whole. It shows how
 // a kind is added, and that layers and packer take kinds that they know nothing of.
+#![tactic(auto)]
+
 ghost use Rattle.std.specs.Prelude.{◌≡◌, [], ◌∷◌};
 ghost use Rattle.ledger.specs.Rules.{a_put};
 ghost use Rattle.ledger.specs.Season.{Season};

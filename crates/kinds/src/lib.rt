@@ -1,4 +1,6 @@
 // Kinds of container: what each tells of a piece, and the laws that hold of all it tells.
+#![tactic(auto)]
+
 ghost use Rattle.std.specs.Prelude.{◌≡◌, ℕ};
 ghost use Rattle.kinds.specs.Kind.{Meaning, Lawful};
 

@@ -1,5 +1,7 @@
 // The plain values of a packer: the bank of open containers, the ledger, answers and reports. The
 // rules by which they change, and the promise that holds of them, are in specs/.
+#![tactic(auto)]
+
 ghost use Rattle.std.specs.Prelude.{◌≡◌, ◌-◌, if◌then◌else◌, slice_index_or, slice_set};
 ghost use Rattle.kinds.specs.Kind.{between};
 ghost use Rattle.ledger.specs.Rules.{nothing, new_bank};

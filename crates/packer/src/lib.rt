@@ -1,4 +1,6 @@
 // The packer, over any kind of container.
+#![tactic(auto)]
+
 ghost use Rattle.std.specs.Prelude.{◌≡◌, ◌+◌, ◌-◌, ◌^◌, ◌<◌, ◌≤◌, List, [], ◌∷◌, ◌++◌, length, if◌then◌else◌, Some, None, slice_set};
 ghost use Rattle.kinds.specs.Kind.{Admitted};
 ghost use Rattle.ledger.specs.Bounded.{Within, Bounded};

@@ -1,4 +1,6 @@
 // Why a call refuses: one closed list for each group of calls, and the number of each cause.
+#![tactic(auto)]
+
 ghost use Rattle.std.specs.Prelude.{◌≡◌};
 ghost use Rattle.refusals.specs.Numbers.{number_of_piece, number_of_put, number_of_make, number_of_write, number_of_read};
 

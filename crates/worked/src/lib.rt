@@ -1,4 +1,6 @@
 // The worked cases of the rules: as one fact about the definitions, and run as tests.
+#![tactic(auto)]
+
 ghost use Rattle.worked.specs.Worked.{Worked};
 
 // The worked cases follow from the definitions that all contracts cite.

@@ -1,4 +1,6 @@
 // The first program: what each kind of container tells of some pieces, and what that means.
+#![tactic(auto)]
+
 use crate::lines::archive_lines;
 use crate::season::season;
 use kinds::Kind;
