@@ -66,7 +66,7 @@ fn added(sum: u64, places: &[PlaceLine], closings: &[ClosingLine]) -> u64 {
 
 // Puts so many drawn pieces, and tells the used cost. What is added to `sum` is left open.
 fn pack<K: Kind + Drop>(kind: K, heights: u32, pieces: u32, sum: &mut u64) -> u64
-    ensures { Packed (K.Kind.meaning kind) result }
+    ensures { Packed (K.meaning kind) result }
 {
     let mut draw = Draw::new();
     let mut packer = Packer::new(kind);

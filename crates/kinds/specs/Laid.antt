@@ -8,7 +8,7 @@ abbrev pub Layout : Type 0
 Layout = ℕ → Piece → ℕ
 
 -- The law that every laid kind owes: a piece begins where those before it end.
-pub record Laid_out (m : Meaning) (place : Layout) : Type 0 where
+pub record LaidOut (m : Meaning) (place : Layout) : Type 0 where
   pub admitted_begins_at_level : (l : ℕ) (p : Piece) → Admitted m p → place l p ≡ l
   pub refused_has_no_place : (l : ℕ) (p : Piece) → (Admitted m p → ⊥) → place l p ≡ 0
 

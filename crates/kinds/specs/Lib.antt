@@ -7,3 +7,7 @@ pub mod Laid
 pub mod StripLaws
 pub mod Told
 pub mod Ranks
+pub mod Factors
+pub mod Light
+pub mod BarLaws
+pub mod ToteLaws

@@ -1,7 +1,8 @@
 // Bars of one capacity, in harmonic classes: class j holds j pieces, the last class what fits.
 ghost use Rattle.std.specs.Prelude.{◌≡◌, ◌≤◌, Some, None, MatchResult};
 ghost use Rattle.kinds.specs.Bars.{bars, bars_refusal};
-ghost use Rattle.std.proofs.Common.{rules, arith};
+ghost use Rattle.kinds.specs.BarLaws.{bars_lawful};
+ghost use Rattle.std.proofs.Common.{refl};
 
 use crate::Kind;
 use crate::figures::{ceiling_factor_of, last_factor_of, unit_factor_of};
@@ -43,9 +44,9 @@ impl Kind for Bars {
 
     ghost meaning = { λ b. bars b.capacity b.k };
 
-    ghost coded = { first_of (Prim.search rules, Prim.grind (arith, Self.row.coded.inj)) };
+    ghost coded = { λ b. refl };
 
-    ghost lawful = { first_of (Prim.search rules, Prim.grind (arith, Self.row.coded.inj)) };
+    ghost lawful = { λ b. bars_lawful b.capacity b.k b.some b.most b.many b.few };
 
     fn kind_code() -> u8 {
         Self::CODE

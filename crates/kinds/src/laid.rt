@@ -3,8 +3,8 @@ ghost use Rattle.std.specs.Prelude.{◌≡◌};
 ghost use Rattle.kinds.specs.Kind.{told};
 ghost use Rattle.kinds.specs.Bars.{bars};
 ghost use Rattle.kinds.specs.Strips.{strips};
-ghost use Rattle.kinds.specs.Laid.{Layout, Laid_out, side_by_side};
-ghost use Rattle.std.proofs.Common.{rules, arith};
+ghost use Rattle.kinds.specs.Laid.{Layout, LaidOut, side_by_side};
+ghost use Rattle.std.proofs.Common.{rules};
 
 use crate::Kind;
 use crate::bars::Bars;
@@ -21,7 +21,7 @@ pub trait Laid: Kind {
     fn place(&self, level: u32, piece: &Piece) -> u32
         ensures { result ≡ layout self.now level piece.now };
 
-    ghost laid: { (k : Self) → Laid_out (Self.Kind.meaning k) (layout k) };
+    ghost laid: { (k : Self) → LaidOut (Self.meaning k) (layout k) };
 }
 
 // Side by side, an admitted piece begins at the level.
@@ -37,7 +37,7 @@ fn begins(refusal: Option<PieceRefusal>, level: u32) -> u32
 impl Laid for Bars {
     ghost layout = { λ b. side_by_side (bars b.capacity b.k) };
 
-    ghost laid = { first_of (Prim.search rules, Prim.grind (arith, Self.row.coded.inj)) };
+    ghost laid = { Prim.search rules };
 
     fn place(&self, level: u32, rail: &Piece) -> u32 {
         begins(self.refusal(rail), level)
@@ -47,7 +47,7 @@ impl Laid for Bars {
 impl Laid for Strips {
     ghost layout = { λ s. side_by_side (strips s.width) };
 
-    ghost laid = { first_of (Prim.search rules, Prim.grind (arith, Self.row.coded.inj)) };
+    ghost laid = { Prim.search rules };
 
     fn place(&self, level: u32, cloth: &Piece) -> u32 {
         begins(self.refusal(cloth), level)

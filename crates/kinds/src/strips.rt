@@ -3,7 +3,7 @@
 ghost use Rattle.std.specs.Prelude.{◌≡◌, ℕ, ◌^◌, ◌≤◌, Some, None, MatchResult};
 ghost use Rattle.kinds.specs.Strips.{strips, strips_refusal, rank, row_height};
 ghost use Rattle.kinds.specs.StripLaws.{strips_lawful};
-ghost use Rattle.std.proofs.Common.{rules, arith};
+ghost use Rattle.std.proofs.Common.{refl};
 
 use crate::Kind;
 use crate::piece::Piece;
@@ -59,7 +59,7 @@ impl Kind for Strips {
 
     ghost meaning = { λ s. strips s.width };
 
-    ghost coded = { first_of (Prim.search rules, Prim.grind (arith, Self.row.coded.inj)) };
+    ghost coded = { λ s. refl };
 
     ghost lawful = { λ s. strips_lawful s.width s.some s.most };
 

@@ -1,7 +1,8 @@
 // Totes: a mass as a bar has a length, and at most so many pieces.
 ghost use Rattle.std.specs.Prelude.{◌≡◌, ◌*◌, ◌^◌, ◌<◌, ◌≤◌, Some, None, MatchResult};
 ghost use Rattle.kinds.specs.Totes.{totes, totes_refusal};
-ghost use Rattle.std.proofs.Common.{rules, arith};
+ghost use Rattle.kinds.specs.ToteLaws.{totes_lawful};
+ghost use Rattle.std.proofs.Common.{refl};
 
 use crate::Kind;
 use crate::bars::Bars;
@@ -50,9 +51,9 @@ impl Kind for Totes {
 
     ghost meaning = { λ t. totes t.bars.capacity t.bars.k t.limit };
 
-    ghost coded = { first_of (Prim.search rules, Prim.grind (arith, Self.row.coded.inj)) };
+    ghost coded = { λ t. refl };
 
-    ghost lawful = { first_of (Prim.search rules, Prim.grind (arith, Self.row.coded.inj)) };
+    ghost lawful = { λ t. totes_lawful t.bars.capacity t.bars.k t.limit t.bars.some t.bars.most t.bars.many t.bars.few t.many t.few };
 
     fn kind_code() -> u8 {
         Self::CODE

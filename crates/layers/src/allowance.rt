@@ -2,7 +2,7 @@
 ghost use Rattle.std.specs.Prelude.{◌≡◌, ◌≤◌, Some, None, MatchResult};
 ghost use Rattle.layers.specs.Allowance.{widened, allowance, allowance_refusal};
 ghost use Rattle.layers.specs.AllowanceLaws.{allowance_lawful};
-ghost use Rattle.std.proofs.Common.{rules, arith};
+ghost use Rattle.std.proofs.Common.{rules};
 
 use kinds::Kind;
 use kinds::piece::Piece;
@@ -42,13 +42,13 @@ pub(crate) fn widen(amount: u32, piece: &Piece) -> Piece
 impl<K: Kind> Kind for Allowance<K> {
     const CODE: u8 = K::CODE;
 
-    ghost code = { K.Kind.code };
+    ghost code = { K.code };
 
-    ghost meaning = { λ a. allowance a.amount (K.Kind.meaning a.below) };
+    ghost meaning = { λ a. allowance a.amount (K.meaning a.below) };
 
-    ghost coded = { first_of (Prim.search rules, Prim.grind (arith, Self.row.coded.inj)) };
+    ghost coded = { Prim.search rules };
 
-    ghost lawful = { λ a. allowance_lawful a.amount _ (K.Kind.lawful a.below) };
+    ghost lawful = { λ a. allowance_lawful a.amount _ (K.lawful a.below) };
 
     fn kind_code() -> u8 {
         K::kind_code()

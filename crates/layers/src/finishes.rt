@@ -2,7 +2,7 @@
 ghost use Rattle.std.specs.Prelude.{◌≡◌, ◌*◌, ◌≤◌, true, Some, None, MatchResult, nat_le};
 ghost use Rattle.layers.specs.Finishes.{plain, below as below_class, has_class, reckoned, finishes, finishes_refusal};
 ghost use Rattle.layers.specs.FinishLaws.{finishes_lawful};
-ghost use Rattle.std.proofs.Common.{rules, arith};
+ghost use Rattle.std.proofs.Common.{rules};
 
 use kinds::Kind;
 use kinds::piece::Piece;
@@ -18,7 +18,7 @@ pub struct Finishes<K> {
 
 impl<K: Kind + Drop> Finishes<K> {
     pub fn new(count: u32, below: K) -> Result<Finishes<K>, MakeRefusal>
-        ensures { MatchResult result (λ l. (finishes_refusal count (K.Kind.meaning below) ≡ None) × (l.count ≡ count) × (l.below ≡ below) × (reckoned count (K.Kind.meaning below) ≡ count)) (λ e. finishes_refusal count (K.Kind.meaning below) ≡ Some e) }
+        ensures { MatchResult result (λ l. (finishes_refusal count (K.meaning below) ≡ None) × (l.count ≡ count) × (l.below ≡ below) × (reckoned count (K.meaning below) ≡ count)) (λ e. finishes_refusal count (K.meaning below) ≡ Some e) }
     {
         if !(1 <= count && count <= 4) {
             return Err(MakeRefusal::Finishes);
@@ -36,8 +36,8 @@ impl<K: Kind + Drop> Finishes<K> {
 // Whether so many finishes have room in 104 classes, and so are all reckoned with.
 fn have_room<K: Kind>(count: u32, below: &K) -> bool
     requires { count ≤ 4 }
-    ensures value { result ≡ nat_le (count * (K.Kind.meaning below.now).classes) 104 }
-    ensures all { result ≡ true → reckoned count (K.Kind.meaning below.now) ≡ count }
+    ensures value { result ≡ nat_le (count * (K.meaning below.now).classes) 104 }
+    ensures all { result ≡ true → reckoned count (K.meaning below.now) ≡ count }
 {
     count * below.classes() as u32 <= 104
 }
@@ -54,14 +54,14 @@ pub(crate) fn bare(piece: &Piece) -> Piece
 
 // How many finishes are reckoned with: those that have room in 104 classes.
 pub(crate) fn known<K: Kind>(layer: &Finishes<K>) -> u8
-    ensures value { result ≡ reckoned layer.now.count (K.Kind.meaning layer.now.below) }
-    ensures room { result * (K.Kind.meaning layer.now.below).classes ≤ 104 }
+    ensures value { result ≡ reckoned layer.now.count (K.meaning layer.now.below) }
+    ensures room { result * (K.meaning layer.now.below).classes ≤ 104 }
 {
     layer.count.min(104 / layer.below.classes())
 }
 
 fn has<K: Kind>(layer: &Finishes<K>, class: u8) -> bool
-    ensures { result ≡ has_class (reckoned layer.now.count (K.Kind.meaning layer.now.below)) (K.Kind.meaning layer.now.below) class }
+    ensures { result ≡ has_class (reckoned layer.now.count (K.meaning layer.now.below)) (K.meaning layer.now.below) class }
 {
     1 <= class && class <= layer.classes()
 }
@@ -69,7 +69,7 @@ fn has<K: Kind>(layer: &Finishes<K>, class: u8) -> bool
 // The class below of a class.
 fn class_below<K: Kind>(layer: &Finishes<K>, class: u8) -> u8
     requires { 1 ≤ class }
-    ensures { result ≡ below_class (reckoned layer.now.count (K.Kind.meaning layer.now.below)) (K.Kind.meaning layer.now.below) class }
+    ensures { result ≡ below_class (reckoned layer.now.count (K.meaning layer.now.below)) (K.meaning layer.now.below) class }
 {
     (class - 1) % layer.below.classes() + 1
 }
@@ -77,13 +77,13 @@ fn class_below<K: Kind>(layer: &Finishes<K>, class: u8) -> u8
 impl<K: Kind> Kind for Finishes<K> {
     const CODE: u8 = K::CODE;
 
-    ghost code = { K.Kind.code };
+    ghost code = { K.code };
 
-    ghost meaning = { λ l. finishes l.count (K.Kind.meaning l.below) };
+    ghost meaning = { λ l. finishes l.count (K.meaning l.below) };
 
-    ghost coded = { first_of (Prim.search rules, Prim.grind (arith, Self.row.coded.inj)) };
+    ghost coded = { Prim.search rules };
 
-    ghost lawful = { λ l. finishes_lawful l.count _ (K.Kind.lawful l.below) l.some };
+    ghost lawful = { λ l. finishes_lawful l.count _ (K.lawful l.below) l.some };
 
     fn kind_code() -> u8 {
         K::kind_code()

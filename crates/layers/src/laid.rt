@@ -1,6 +1,6 @@
 // A layer over a laid kind is laid: it asks below where the piece lies that it passes down.
 ghost use Rattle.layers.specs.Laid.{allowance_layout, finishes_layout};
-ghost use Rattle.std.proofs.Common.{rules, arith};
+ghost use Rattle.std.proofs.Common.{rules};
 
 use crate::allowance::{Allowance, widen};
 use crate::finishes::{Finishes, bare, known};
@@ -9,9 +9,9 @@ use kinds::laid::Laid;
 use kinds::piece::Piece;
 
 impl<L: Laid> Laid for Allowance<L> {
-    ghost layout = { λ a. allowance_layout a.amount (L.Laid.layout a.below) };
+    ghost layout = { λ a. allowance_layout a.amount (L.layout a.below) };
 
-    ghost laid = { first_of (Prim.search rules, Prim.grind (arith, Self.row.coded.inj)) };
+    ghost laid = { Prim.search rules };
 
     fn place(&self, level: u32, piece: &Piece) -> u32 {
         self.below.place(level, &widen(self.amount, piece))
@@ -19,9 +19,9 @@ impl<L: Laid> Laid for Allowance<L> {
 }
 
 impl<L: Laid> Laid for Finishes<L> {
-    ghost layout = { λ l. finishes_layout l.count (L.Kind.meaning l.below) (L.Laid.layout l.below) };
+    ghost layout = { λ l. finishes_layout l.count (L.meaning l.below) (L.layout l.below) };
 
-    ghost laid = { first_of (Prim.search rules, Prim.grind (arith, Self.row.coded.inj)) };
+    ghost laid = { Prim.search rules };
 
     fn place(&self, level: u32, piece: &Piece) -> u32 {
         if piece.finish < known(self) {

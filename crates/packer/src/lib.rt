@@ -31,8 +31,8 @@ pub struct Packer<K> {
 // The kind's questions on an admitted piece, with the ranges that the law gives.
 
 fn class_of<K: Kind>(kind: &K, p: &Piece) -> u8
-    requires admitted { Admitted (K.Kind.meaning kind.now) p.now }
-    ensures value { result ≡ (K.Kind.meaning kind.now).class p.now }
+    requires admitted { Admitted (K.meaning kind.now) p.now }
+    ensures value { result ≡ (K.meaning kind.now).class p.now }
     ensures low { 1 ≤ result }
     ensures high { result ≤ 104 }
 {
@@ -40,16 +40,16 @@ fn class_of<K: Kind>(kind: &K, p: &Piece) -> u8
 }
 
 fn load_of<K: Kind>(kind: &K, p: &Piece) -> u32
-    requires admitted { Admitted (K.Kind.meaning kind.now) p.now }
-    ensures value { result ≡ (K.Kind.meaning kind.now).load p.now }
+    requires admitted { Admitted (K.meaning kind.now) p.now }
+    ensures value { result ≡ (K.meaning kind.now).load p.now }
     ensures high { result ≤ 1000000 }
 {
     kind.load(p)
 }
 
 fn weight_of<K: Kind>(kind: &K, p: &Piece) -> u64
-    requires admitted { Admitted (K.Kind.meaning kind.now) p.now }
-    ensures value { result ≡ (K.Kind.meaning kind.now).weight p.now }
+    requires admitted { Admitted (K.meaning kind.now) p.now }
+    ensures value { result ≡ (K.meaning kind.now).weight p.now }
     ensures high { result ≤ 2 ^ 44 }
 {
     kind.weight(p)
@@ -57,7 +57,7 @@ fn weight_of<K: Kind>(kind: &K, p: &Piece) -> u64
 
 // The cost of any class, of none too.
 fn cost_of<K: Kind>(kind: &K, class: u8) -> u64
-    ensures value { result ≡ (K.Kind.meaning kind.now).cost class }
+    ensures value { result ≡ (K.meaning kind.now).cost class }
     ensures high { result ≤ 2 ^ 44 }
 {
     kind.cost(class)
@@ -65,7 +65,7 @@ fn cost_of<K: Kind>(kind: &K, class: u8) -> u64
 
 // The standing cost of any class, of none too.
 fn standing_in<K: Kind>(kind: &K, class: u8) -> u64
-    ensures value { result ≡ (K.Kind.meaning kind.now).standing class }
+    ensures value { result ≡ (K.meaning kind.now).standing class }
     ensures high { result ≤ 2 ^ 44 }
 {
     kind.standing(class)
@@ -74,7 +74,7 @@ fn standing_in<K: Kind>(kind: &K, class: u8) -> u64
 // The least number whose product with the ceiling is at least the weight.
 fn floor<K: Kind>(kind: &K, weight: u64) -> u64
     requires { weight ≤ 2 ^ 62 }
-    ensures { result ≡ floor_of (K.Kind.meaning kind.now).ceiling weight }
+    ensures { result ≡ floor_of (K.meaning kind.now).ceiling weight }
 {
     let ceiling = kind.ceiling();
     (weight + (ceiling - 1)) / ceiling
@@ -114,11 +114,11 @@ fn taking_slot<K: Kind>(
 ) -> Slot
     requires bounded { Bounded ledger.now }
     requires few { ledger.now.accepted < 100000 }
-    requires class { class ≡ (K.Kind.meaning kind.now).class p.now }
-    requires load { (load ≡ (K.Kind.meaning kind.now).load p.now) × (load ≤ 1000000) }
+    requires class { class ≡ (K.meaning kind.now).class p.now }
+    requires load { (load ≡ (K.meaning kind.now).load p.now) × (load ≤ 1000000) }
     requires found { found.now ≡ open_in ledger.now class }
     requires within { Within ledger.now found.now }
-    ensures value { result ≡ taking (K.Kind.meaning kind.now) ledger.now p.now }
+    ensures value { result ≡ taking (K.meaning kind.now) ledger.now p.now }
     ensures within { Within ledger.now result }
     ensures level { result.level + load ≤ 1000000 }
 {
@@ -146,7 +146,7 @@ fn pick<T: Copy>(b: bool, x: T, y: T) -> T
 // The used cost, which grows where the piece does not go into what stands open.
 fn used_then<K: Kind>(kind: &K, ledger: &Ledger, class: u8, goes: bool) -> u64
     requires { ledger.now.used ≤ 2 ^ 62 }
-    ensures { result ≡ (if goes then ledger.now.used else ledger.now.used + (K.Kind.meaning kind.now).cost class) }
+    ensures { result ≡ (if goes then ledger.now.used else ledger.now.used + (K.meaning kind.now).cost class) }
 {
     if goes {
         ledger.used
@@ -186,9 +186,9 @@ struct Turn {
 
 fn plan<K: Kind>(kind: &K, ledger: &Ledger, p: &Piece) -> Turn
     requires bounded { Bounded ledger.now }
-    requires admitted { Admitted (K.Kind.meaning kind.now) p.now }
+    requires admitted { Admitted (K.meaning kind.now) p.now }
     requires few { ledger.now.accepted < 100000 }
-    ensures { result ≡ turn_of (K.Kind.meaning kind.now) ledger.now p.now }
+    ensures { result ≡ turn_of (K.meaning kind.now) ledger.now p.now }
 {
     let class = class_of(kind, p);
     let load = load_of(kind, p);
@@ -272,7 +272,7 @@ fn add_closings(closings: &mut Lines<'_, ClosingLine>, a: &Placing)
 
 // What the containers now open cost.
 fn open_cost<K: Kind>(kind: &K, ledger: &Ledger) -> u64
-    ensures { result ≡ open_cost (K.Kind.meaning kind.now) ledger.now }
+    ensures { result ≡ open_cost (K.meaning kind.now) ledger.now }
 {
     let mut sum: u64 = 0;
     for i in 0..104usize {
@@ -285,7 +285,7 @@ fn open_cost<K: Kind>(kind: &K, ledger: &Ledger) -> u64
 
 fn report_of<K: Kind>(kind: &K, ledger: &Ledger) -> Report
     requires { Bounded ledger.now }
-    ensures { result ≡ told_by (K.Kind.meaning kind.now) ledger.now }
+    ensures { result ≡ told_by (K.meaning kind.now) ledger.now }
 {
     Report {
         accepted: ledger.accepted,
@@ -299,7 +299,7 @@ fn report_of<K: Kind>(kind: &K, ledger: &Ledger) -> Report
 
 // What containers cost that are left open, over all classes.
 fn standing_of<K: Kind>(kind: &K) -> u64
-    ensures { result ≡ standing_cost (K.Kind.meaning kind.now) }
+    ensures { result ≡ standing_cost (K.meaning kind.now) }
 {
     let mut sum: u64 = 0;
     let classes = kind.classes();
@@ -314,7 +314,7 @@ impl<K: Kind> Packer<K> {
     pub fn new(kind: K) -> Packer<K>
         ensures made { result.ledger ≡ new_ledger }
         ensures kind { result.kind ≡ kind }
-        ensures ran { Ran (K.Kind.meaning result.kind) [] result.ledger }
+        ensures ran { Ran (K.meaning result.kind) [] result.ledger }
     {
         let ledger = new_ledger();
         Packer { kind, ledger }
@@ -327,8 +327,8 @@ impl<K: Kind> Packer<K> {
         places: &mut Lines<'_, PlaceLine>,
         closings: &mut Lines<'_, ClosingLine>,
     ) -> Result<Placing, PutRefusal>
-        ensures answer { result ≡ put_answer (K.Kind.meaning self.old.kind) self.old.ledger piece (room places.old.memory.now places.old.used) (room closings.old.memory.now closings.old.used) }
-        ensures ledger { self.new.ledger ≡ put_ledger (K.Kind.meaning self.old.kind) self.old.ledger piece (room places.old.memory.now places.old.used) (room closings.old.memory.now closings.old.used) }
+        ensures answer { result ≡ put_answer (K.meaning self.old.kind) self.old.ledger piece (room places.old.memory.now places.old.used) (room closings.old.memory.now closings.old.used) }
+        ensures ledger { self.new.ledger ≡ put_ledger (K.meaning self.old.kind) self.old.ledger piece (room places.old.memory.now places.old.used) (room closings.old.memory.now closings.old.used) }
         ensures kind { self.new.kind ≡ self.old.kind }
         ensures places_used { places.new.used ≡ places.old.used + length (places_by piece result) }
         ensures places_memory { places.new.memory.now ≡ written places.old.memory.now places.old.used (places_by piece result) }
@@ -363,20 +363,20 @@ impl<K: Kind> Packer<K> {
         places: &mut Lines<'_, PlaceLine>,
         closings: &mut Lines<'_, ClosingLine>,
     ) -> Result<Placing, PutRefusal>
-        ensures answer { result ≡ put_answer (K.Kind.meaning self.old.kind) self.old.ledger piece (free places.old) (free closings.old) }
-        ensures ledger { self.new.ledger ≡ put_ledger (K.Kind.meaning self.old.kind) self.old.ledger piece (free places.old) (free closings.old) }
+        ensures answer { result ≡ put_answer (K.meaning self.old.kind) self.old.ledger piece (free places.old) (free closings.old) }
+        ensures ledger { self.new.ledger ≡ put_ledger (K.meaning self.old.kind) self.old.ledger piece (free places.old) (free closings.old) }
         ensures kind { self.new.kind ≡ self.old.kind }
         ensures places { Gained places.old places.new (places_by piece result) }
         ensures closings { Gained closings.old closings.new (closings_by result) }
-        ensures ran { (h : List Call) → Ran (K.Kind.meaning self.old.kind) h self.old.ledger → Ran (K.Kind.meaning self.new.kind) (h ++ (a_put piece result ∷ [])) self.new.ledger }
-        ensures cap { (h : List Call) → Ran (K.Kind.meaning self.old.kind) h self.old.ledger → CapIdle (K.Kind.meaning self.old.kind) self.old.ledger piece }
+        ensures ran { (h : List Call) → Ran (K.meaning self.old.kind) h self.old.ledger → Ran (K.meaning self.new.kind) (h ++ (a_put piece result ∷ [])) self.new.ledger }
+        ensures cap { (h : List Call) → Ran (K.meaning self.old.kind) h self.old.ledger → CapIdle (K.meaning self.old.kind) self.old.ledger piece }
     {
         self.step(piece, places, closings)
     }
 
     // What one open container in every class would cost, at standing costs.
     pub fn standing_cost(&self) -> u64
-        ensures { result ≡ standing_cost (K.Kind.meaning self.now.kind) }
+        ensures { result ≡ standing_cost (K.meaning self.now.kind) }
     {
         standing_of(&self.kind)
     }
@@ -385,10 +385,10 @@ impl<K: Kind> Packer<K> {
     // pieces by answered container are an allowed packing that costs what is reported, no allowed
     // packing of them costs less than the floor, and the used cost is not far above it.
     pub fn report(&self) -> Report
-        ensures floor { LeastFloor (K.Kind.meaning self.now.kind) result }
-        ensures told { result ≡ told_by (K.Kind.meaning self.now.kind) self.now.ledger }
-        ensures ran { (h : List Call) → Ran (K.Kind.meaning self.now.kind) h self.now.ledger → Ran (K.Kind.meaning self.now.kind) (h ++ (a_report result ∷ [])) self.now.ledger }
-        ensures season { (h : List Call) → Ran (K.Kind.meaning self.now.kind) h self.now.ledger → Season (K.Kind.meaning self.now.kind) h result }
+        ensures floor { LeastFloor (K.meaning self.now.kind) result }
+        ensures told { result ≡ told_by (K.meaning self.now.kind) self.now.ledger }
+        ensures ran { (h : List Call) → Ran (K.meaning self.now.kind) h self.now.ledger → Ran (K.meaning self.now.kind) (h ++ (a_report result ∷ [])) self.now.ledger }
+        ensures season { (h : List Call) → Ran (K.meaning self.now.kind) h self.now.ledger → Season (K.meaning self.now.kind) h result }
     {
         report_of(&self.kind, &self.ledger)
     }

@@ -5,8 +5,8 @@ use Rattle.packer.proofs.Seasoned.{next_yes, next_no}
 use Rattle.packer.proofs.open_cost.Goals as goal
 use Rattle.packer.proofs.open_cost.Goals.{then-ledger-i-ne0, else-ledger-i-ne0}
 
-pub overflow-add-sum : goal.overflow-add-sum
-overflow-add-sum g c = omega (arith, c.loop-i.invariant.1, c.cost-of-sum.ensures.high, c.loop-i-test.true)
+pub overflow_add-sum : goal.overflow_add-sum
+overflow_add-sum g c = omega (arith, c.loop-i.invariant.1, c.cost_of-sum.ensures.high, c.loop-i-test.true)
 
 pub loop-i-preserved : goal.loop-i-preserved
 loop-i-preserved g c =
@@ -15,8 +15,8 @@ loop-i-preserved g c =
     let i = c.loop-i.i in
     elim c.if-ledger-i-ne0.branch [
       | then-ledger-i-ne0 w ↦ (
-        omega (arith, w.sum-is, w.cost-of-sum.ensures.value, c.loop-i.invariant.0, next_yes m s i w.if-ledger-i-ne0.true),
-        omega (arith, w.sum-is, w.cost-of-sum.ensures.high, c.loop-i.invariant.1),
+        omega (arith, w.sum-is, w.cost_of-sum.ensures.value, c.loop-i.invariant.0, next_yes m s i w.if-ledger-i-ne0.true),
+        omega (arith, w.sum-is, w.cost_of-sum.ensures.high, c.loop-i.invariant.1),
       )
       | else-ledger-i-ne0 w ↦
           (omega (arith, w.sum-is, c.loop-i.invariant.0, next_no m s i w.if-ledger-i-ne0.false), omega (arith, w.sum-is, c.loop-i.invariant.1))

@@ -10,5 +10,5 @@ returns-in-Err c = parsed_fields 2 c.args.bits c.args.bytes.now (omega arith) _ 
 
 pub returns-in-Ok : goal.returns-in-Ok
 returns-in-Ok c =
-    ap (λ vs. Ok ((2, vs), c.in-Ok.got.1)) c.heading-of.ensures
-    ∙ parsed_all 2 c.args.bits c.args.bytes.now (λ i. omega (arith, c.type-inv.bytes i)) (omega arith) _ _ 9 refl c.in-Ok.ensures.value
+    ap (λ vs. Ok ((2, vs), c.in-Ok.got.1)) c.heading_of.ensures
+    ∙ parsed_all 2 c.args.bits c.args.bytes.now (λ i. omega (arith, c.type_inv.bytes i)) (omega arith) _ _ 9 refl c.in-Ok.ensures.value

@@ -10,5 +10,5 @@ returns-in-Err c = parsed_fields 0 c.args.bits c.args.bytes.now (omega arith) _ 
 
 pub returns-in-Ok : goal.returns-in-Ok
 returns-in-Ok c =
-    ap (λ vs. Ok ((0, vs), c.in-Ok.got.1)) c.place-of.ensures
-    ∙ parsed_all 0 c.args.bits c.args.bytes.now (λ i. omega (arith, c.type-inv.bytes i)) (omega arith) _ _ 6 refl c.in-Ok.ensures.value
+    ap (λ vs. Ok ((0, vs), c.in-Ok.got.1)) c.place_of.ensures
+    ∙ parsed_all 0 c.args.bits c.args.bytes.now (λ i. omega (arith, c.type_inv.bytes i)) (omega arith) _ _ 6 refl c.in-Ok.ensures.value

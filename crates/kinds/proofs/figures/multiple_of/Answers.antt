@@ -1,12 +1,12 @@
 use Rattle.std.proofs.Common.{◌≡◌, ℕ, ◌%◌, ◌<◌, ◌≤◌, sym, ◌∙◌, subst}
 use Rattle.kinds.specs.Figures.{multiple}
-use Rattle.kinds.proofs.Factors.{multiple_listed, multiple_common, multiple_least, multiple_most}
+use Rattle.kinds.specs.Factors.{multiple_listed, multiple_common, multiple_least, multiple_most}
 use Rattle.kinds.proofs.figures.multiple_of.Goals as goal
 
 pub returns : goal.returns
 returns c =
     let k : ℕ = c.args.k in
-    let is : c.listed-multiple.result ≡ multiple k = c.listed-multiple.ensures ∙ multiple_listed k c.requires.many c.requires.few in
+    let is : c.listed_multiple.result ≡ multiple k = c.listed_multiple.ensures ∙ multiple_listed k c.requires.many c.requires.few in
     record {
       value = is;
       common = subst (λ r. (j : ℕ) → 1 ≤ j → j < k → r % j ≡ 0) (sym is) (multiple_common k c.requires.many c.requires.few);

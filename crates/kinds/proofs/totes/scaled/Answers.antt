@@ -8,8 +8,8 @@ small f m l a b c =
     let l₁ : l ≤ 255 = omega arith in
     omega (arith, mul-le-mul (mul-le-mul a m₁) l₁)
 
-pub overflow-mul-result-2 : goal.overflow-mul-result-2
-overflow-mul-result-2 c = omega (arith, small c.args.factor c.args.measure c.args.limit c.requires (omega arith) (omega arith))
+pub overflow_mul-result-2 : goal.overflow_mul-result-2
+overflow_mul-result-2 c = omega (arith, small c.args.factor c.args.measure c.args.limit c.requires (omega arith) (omega arith))
 
 pub returns : goal.returns
 returns c = record { value = refl; most = small c.args.factor c.args.measure c.args.limit c.requires (omega arith) (omega arith) }

@@ -5,7 +5,7 @@ use Rattle.ledger.proofs.Bounds.{new_bounded}
 use Rattle.packer.proofs.Packer.new.Goals as goal
 
 pub returns : goal.returns
-returns g c = record { made = c.new-ledger-ledger.ensures; kind = refl; ran = subst (Ran _ _) (sym c.new-ledger-ledger.ensures) made }
+returns g c = record { made = c.new_ledger-ledger.ensures; kind = refl; ran = subst (Ran _ _) (sym c.new_ledger-ledger.ensures) made }
 
-pub invariant-of-result : goal.invariant-of-result
-invariant-of-result g c = (subst Bounded (sym c.new-ledger-ledger.ensures) new_bounded, tt)
+pub invariant_of-result : goal.invariant_of-result
+invariant_of-result g c = (subst Bounded (sym c.new_ledger-ledger.ensures) new_bounded, tt)

@@ -11,18 +11,18 @@ returns g c =
       ledger = e.ledger;
       kind = e.kind;
       places = record {
-        lines = lines_after _ _ _ _ _ e.places-used e.places-memory c.step.new.places.within;
-        used = e.places-used;
-        memory = e.places-memory;
-        rest = rest_after _ _ _ _ _ e.places-used e.places-memory;
+        lines = lines_after _ _ _ _ _ e.places_used e.places_memory c.step.new.places.within;
+        used = e.places_used;
+        memory = e.places_memory;
+        rest = rest_after _ _ _ _ _ e.places_used e.places_memory;
         same = e.places_same;
       };
       closings = record {
-        lines = lines_after _ _ _ _ _ e.closings-used e.closings-memory c.step.new.closings.within;
-        used = e.closings-used;
-        memory = e.closings-memory;
-        rest = rest_after _ _ _ _ _ e.closings-used e.closings-memory;
-        same = e.closings-same;
+        lines = lines_after _ _ _ _ _ e.closings_used e.closings_memory c.step.new.closings.within;
+        used = e.closings_used;
+        memory = e.closings_memory;
+        rest = rest_after _ _ _ _ _ e.closings_used e.closings_memory;
+        same = e.closings_same;
       };
       ran = step_ran g.K.Kind.meaning _ _ _ _ c.args.piece _ _ _ e.kind e.ledger e.answer;
       cap = λ h r. capped _ (g.met.K.Kind.lawful c.args.self.now.kind) h _ r c.args.piece;

@@ -5,8 +5,8 @@ use Rattle.ledger.proofs.Bounds.{bounded_after}
 use Rattle.packer.specs.Steps.{entered}
 use Rattle.packer.proofs.Packer.step.Goals as goal
 
-pub invariant-of-self-2 : goal.invariant-of-self-2
-invariant-of-self-2 g c =
+pub invariant_of-self-2 : goal.invariant_of-self-2
+invariant_of-self-2 g c =
     let k = c.args.self.now.kind in
     let s = c.args.self.now.ledger in
     let few : s.accepted < 100000 = omega arith in

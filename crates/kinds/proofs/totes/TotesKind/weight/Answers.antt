@@ -1,6 +1,6 @@
 use Rattle.std.proofs.Common.{sym, arith}
-use Rattle.kinds.proofs.BarLaws.{bars_lawful}
+use Rattle.kinds.specs.BarLaws.{bars_lawful}
 use Rattle.kinds.proofs.totes.TotesKind.weight.Goals as goal
 
-pub nonzero-div-result : goal.nonzero-div-result
-nonzero-div-result c = omega (arith, c.class-class.ensures, (bars_lawful c.args.self.now.bars).admitted_has_class c.args.piece.now (sym c.in-None.ensures))
+pub nonzero_div-result : goal.nonzero_div-result
+nonzero_div-result c = omega (arith, c.class-class.ensures, (let b = c.args.self.now.bars in bars_lawful b.capacity b.k b.some b.most b.many b.few).admitted_has_class c.args.piece.now (sym c.in-None.ensures))

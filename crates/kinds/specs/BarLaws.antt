@@ -7,14 +7,13 @@ use Rattle.std.proofs.lemmas.List.Sums.{sum_by_push}
 use Rattle.std.proofs.ByRecursion.{All-push, All-weaker}
 use Rattle.std.proofs.lemmas.Bool.{cases_lt, cases_Bool, lt-ltb, le-ltb, cond-true, cond-false}
 use Rattle.std.proofs.lemmas.Bool.Decides.{nat_tests}
-use Rattle.kinds.specs.declared.bars.Bars.{Bars}
 use Rattle.kinds.specs.declared.piece.Piece.{Piece}
 use Rattle.refusals.specs.declared.PieceRefusal.TheVariants.{Finish, First, Second}
 use Rattle.kinds.specs.Kind.{Meaning, Lawful, Admitted, ClassOf, Built, one_more, none_yet, level, weights, full_with, fits_after, told, between}
 use Rattle.kinds.specs.Figures.{multiple, unit_factor, ceiling_factor}
 use Rattle.kinds.specs.Bars.{bar_refusal, bars_by, bars}
-use Rattle.kinds.proofs.Factors.{Figures, figures}
-use Rattle.kinds.proofs.Light.{Harmonic, light}
+use Rattle.kinds.specs.Factors.{Figures, figures}
+use Rattle.kinds.specs.Light.{Harmonic, light}
 use Rattle.kinds.specs.Told.{told_no, told_same, is_between, above}
 
 -- Numbers
@@ -281,8 +280,8 @@ module _ {C k L u p : ℕ} (known : Measures C k L u p) where
   }
 
 -- what a bar's own invariant says
-pub measures : (b : Bars) → Measures b.capacity b.k (multiple b.k) (unit_factor b.k) (ceiling_factor b.k)
-measures b = record { low = b.some; high = b.most; figs = figures b.k b.many b.few }
+pub measures : (C k : ℕ) → 1 ≤ C → C ≤ 1000000 → 2 ≤ k → k ≤ 12 → Measures C k (multiple k) (unit_factor k) (ceiling_factor k)
+measures C k some most many few = record { low = some; high = most; figs = figures k many few }
 
-pub bars_lawful : (b : Bars) → Lawful (bars b.capacity b.k)
-bars_lawful b = bars_by_lawful (measures b)
+pub bars_lawful : (C k : ℕ) → 1 ≤ C → C ≤ 1000000 → 2 ≤ k → k ≤ 12 → Lawful (bars C k)
+bars_lawful C k some most many few = bars_by_lawful (measures C k some most many few)

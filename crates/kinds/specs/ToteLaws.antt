@@ -6,12 +6,11 @@ use Rattle.std.proofs.lemmas.List.Sums.{sum_by-cons}
 use Rattle.std.proofs.lemmas.Bool.{cases_lt, lt-ltb, le-ltb, cond-true, cond-false}
 use Rattle.std.proofs.lemmas.Bool.Decides.{nat_tests}
 use Rattle.kinds.specs.declared.piece.Piece.{Piece}
-use Rattle.kinds.specs.declared.totes.Totes.{Totes}
 use Rattle.kinds.specs.Kind.{Meaning, Lawful, Admitted, ClassOf, Built, one_more, none_yet, level, weights, full_with, fits_after, told, between}
 use Rattle.kinds.specs.Bars.{bars_by}
 use Rattle.kinds.specs.Totes.{totes_by, totes}
 use Rattle.kinds.specs.Told.{told_no, told_same}
-use Rattle.kinds.proofs.BarLaws.{bar_fit, Measures, Bar, bar, fit_is, Holds, holds, out_class, cost_one, standing_none, count_heavy, level_heavy, lcm_below, unit_some, unit_most, weight_some, weight_most, bars_light, bars_by_lawful, measures}
+use Rattle.kinds.specs.BarLaws.{bar_fit, Measures, Bar, bar, fit_is, Holds, holds, out_class, cost_one, standing_none, count_heavy, level_heavy, lcm_below, unit_some, unit_most, weight_some, weight_most, bars_light, bars_by_lawful, measures}
 
 -- Tests, at count n and with a piece that brings the level to x
 
@@ -181,5 +180,5 @@ module _ {C k L u p K : ℕ} (known : Measures C k L u p) (room : k ≤ K) (few 
         is_full C k K (B.class q) 1 0 is.0 (omega (arith, e, known.figs.many)) (omega (arith, e));
   }
 
-pub totes_lawful : (t : Totes) → Lawful (totes t.bars.capacity t.bars.k t.limit)
-totes_lawful t = totes_by_lawful (measures t.bars) t.many t.few
+pub totes_lawful : (C k K : ℕ) → 1 ≤ C → C ≤ 1000000 → 2 ≤ k → k ≤ 12 → k ≤ K → K ≤ 50 → Lawful (totes C k K)
+totes_lawful C k K some most many few low high = totes_by_lawful (measures C k some most many few) low high

@@ -5,7 +5,7 @@ use Rattle.std.specs.List.{AllByRecursion as All}
 use Rattle.std.proofs.lemmas.List.Sums.{sum_by-cons}
 use Rattle.std.proofs.ByRecursion.{All-weaker}
 use Rattle.std.proofs.lemmas.Bool.{cases_lt, cases_eq}
-use Rattle.kinds.proofs.Factors.{Figures}
+use Rattle.kinds.specs.Factors.{Figures}
 
 -- m times a weight against the length, for a piece below the last class, and in it
 

@@ -1,4 +1,0 @@
-pub mod Factors
-pub mod Light
-pub mod BarLaws
-pub mod ToteLaws

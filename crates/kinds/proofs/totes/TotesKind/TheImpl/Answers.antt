@@ -1,5 +1,0 @@
-use Rattle.kinds.proofs.ToteLaws.{totes_lawful}
-use Rattle.kinds.proofs.totes.TotesKind.TheImpl.Goals as goal
-
-pub lawful-law : goal.lawful-law
-lawful-law = totes_lawful
