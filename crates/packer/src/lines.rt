@@ -57,7 +57,7 @@ impl<'a, T: Copy> Lines<'a, T> {
     pub fn add(&mut self, line: T) -> bool
         ensures value { result ≡ nat_lt 0 (room self.old.memory.now self.old.used) }
         ensures lines { lines_in self.new.memory.now self.new.used ≡ lines_in self.old.memory.now self.old.used ++ (if result then line ∷ [] else []) }
-        ensures used { self.new.used ≡ self.old.used + cond result 1 0 }
+        ensures used { self.new.used ≡ self.old.used + (if result then 1 else 0) }
         ensures memory { self.new.memory.now ≡ (if result then slice_set self.old.memory.now self.old.used line else self.old.memory.now) }
         ensures rest { drop self.new.used self.new.memory.now ≡ drop self.new.used self.old.memory.now }
         ensures same { self.new.memory.ghost_name ≡ self.old.memory.ghost_name }

@@ -8,4 +8,4 @@ pub returns : goal.returns
 returns g c = record { made = c.new_ledger-ledger.ensures; kind = refl; ran = subst (Ran _ _) (sym c.new_ledger-ledger.ensures) made }
 
 pub invariant_of-result : goal.invariant_of-result
-invariant_of-result g c = (subst Bounded (sym c.new_ledger-ledger.ensures) new_bounded, tt)
+invariant_of-result g c = record { bounded = subst Bounded (sym c.new_ledger-ledger.ensures) new_bounded }

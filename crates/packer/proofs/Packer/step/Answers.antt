@@ -11,4 +11,4 @@ invariant_of-self-2 g c =
     let s = c.args.self.now.ledger in
     let few : s.accepted < 100000 = omega arith in
     let admitted : Admitted (g.K.Kind.meaning k) c.args.piece = search rules in
-    (subst Bounded (sym c.enter.ensures) (subst (λ t. Bounded (entered s t)) (sym c.plan-turn.ensures) (bounded_after (g.K.Kind.meaning k) (g.met.K.Kind.lawful k) s c.args.self.now.bounded c.args.piece admitted few)), tt)
+    record { bounded = subst Bounded (sym c.enter.ensures) (subst (λ t. Bounded (entered s t)) (sym c.plan-turn.ensures) (bounded_after (g.K.Kind.meaning k) (g.met.K.Kind.lawful k) s c.args.self.now.bounded c.args.piece admitted few)) }
