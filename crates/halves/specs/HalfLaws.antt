@@ -1,7 +1,7 @@
 -- Halves are lawful. Assumes nothing.
 use Rattle.std.specs.Prelude.{◌≡◌, ℕ, ◌+◌, ◌*◌, ◌^◌, ◌<◌, ◌≤◌, Bool, true, false, cond, ◌&&◌, leb, List, [], ◌∷◌, length, Some, None, sum_by, Option, ◌==◌, nat_eq, nat_le, refl}
 use Rattle.std.proofs.Common.{sym, ap, subst, ◌∙◌, inl, inr, arith}
-use Rattle.std.specs.List.{AllByRecursion as All}
+use Rattle.std.specs.List.{AllByRecursion}
 use Rattle.std.proofs.ByRecursion.{All-push, All-weaker}
 use Rattle.std.proofs.lemmas.List.Sums.{sum_by-cons, sum_by_push}
 use Rattle.std.proofs.lemmas.Bool.{cases_Bool, leb-true, leb-false, lt-leb, le-leb, eq-eqb, ne_eqb, and_parts, and_right, and_left}
@@ -43,13 +43,13 @@ no_one c h = ne_eqb c 1 (λ e. h (omega arith))
 
 -- what sized pieces weigh, and load
 
-weighs : (ps : List Piece) → All (λ p. sized p ≡ true) ps → weights halves ps ≡ sum_by (λ p. p.first) ps
+weighs : (ps : List Piece) → AllByRecursion (λ p. sized p ≡ true) ps → weights halves ps ≡ sum_by (λ p. p.first) ps
 weighs [] h = refl
 weighs (p ∷ ps) h = omega (arith, sum_by-cons halves.weight p ps, sum_by-cons (λ p. p.first) p ps, weighs ps h.1, measure p h.0)
 
 -- what a container so built holds
 record Held (c : ℕ) (ps : List Piece) : Type 0 where
-  all_sized : All (λ p. sized p ≡ true) ps
+  all_sized : AllByRecursion (λ p. sized p ≡ true) ps
   at_most : level halves ps ≤ 2
   one : 0 < length ps → (c == 1) ≡ true
 

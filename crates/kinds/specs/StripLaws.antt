@@ -1,7 +1,7 @@
 -- Strips are lawful. Assumes nothing.
 use Rattle.std.specs.Prelude.{◌≡◌, ℕ, ◌+◌, ◌-◌, ◌*◌, ◌^◌, ◌<◌, ◌≤◌, true, false, cond, not, ◌&&◌, ◌⊎◌, List, [], ◌∷◌, ◌++◌, length, Some, None, sum_by, ◌==◌, nat_eq, nat_le, refl}
 use Rattle.std.proofs.Common.{sym, ap, subst, ◌∙◌, inl, inr, mul_comm, mul_assoc, mul-le-mul, mul-le-mul_left, mul-le-mul_right, add-mul, arith, pow_mono, pow_pos}
-use Rattle.std.specs.List.{AllByRecursion as All}
+use Rattle.std.specs.List.{AllByRecursion}
 use Rattle.std.proofs.lemmas.List.{nil_from_length}
 use Rattle.std.proofs.lemmas.List.Sums.{sum_by-cons, sum_by_push}
 use Rattle.std.proofs.ByRecursion.{All-push, All-weaker}
@@ -106,7 +106,7 @@ module _ (C : ℕ) (low : 1 ≤ C) (high : C ≤ 1000000) where
         | inr k ↦ omega (arith, weights_push ps p a, quarter p.first p.second C (row_height c) (omega (arith, k.2)) (row c p a e).flat)
       ]
 
-  all_ok : {c : ℕ} {ps : List Piece} → Built (strips C) c ps → All (λ p. (strip_refusal C p ≡ None) × (p.second ≤ row_height c)) ps
+  all_ok : {c : ℕ} {ps : List Piece} → Built (strips C) c ps → AllByRecursion (λ p. (strip_refusal C p ≡ None) × (p.second ≤ row_height c)) ps
   all_ok none_yet = tt
   all_ok {c} (one_more {ps = ps} {p = p} b a e nf ft) = All-push (λ p. (strip_refusal C p ≡ None) × (p.second ≤ row_height c)) ps p (all_ok b) (a, (row c p a e).tall)
 
@@ -142,10 +142,10 @@ module _ (C : ℕ) (low : 1 ≤ C) (high : C ≤ 1000000) where
     elim (cases_Bool (wide c)) [ inl e ↦ let b = and_parts (nat_le 14 c) (nat_le c 26) e in absurd (h (omega (arith, leb-true 14 c b.0), leb-true c 26 b.1)) | inr e ↦ e ],
   )
 
-  all_admitted : (h : ℕ) (ps : List Piece) → All (λ p. (strip_refusal C p ≡ None) × (p.second ≤ h)) ps → All (Admitted (strips C)) ps
+  all_admitted : (h : ℕ) (ps : List Piece) → AllByRecursion (λ p. (strip_refusal C p ≡ None) × (p.second ≤ h)) ps → AllByRecursion (Admitted (strips C)) ps
   all_admitted h ps a = All-weaker _ _ (λ p k. k.0) ps a
 
-  weights_area : (ps : List Piece) → All (Admitted (strips C)) ps → weights (strips C) ps ≡ 4 * sum_by area ps
+  weights_area : (ps : List Piece) → AllByRecursion (Admitted (strips C)) ps → weights (strips C) ps ≡ 4 * sum_by area ps
   weights_area [] h = refl
   weights_area (p ∷ ps) h = omega (arith, weights_area ps h.1, weight_is p h.0, sum_by-cons (strips C).weight p ps, sum_by-cons area p ps)
 

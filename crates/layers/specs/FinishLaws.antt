@@ -2,7 +2,7 @@
 use Rattle.std.specs.Prelude.{◌≡◌, ℕ, suc, ◌+◌, ◌-◌, ◌*◌, ◌/◌, ◌%◌, ◌<◌, ◌≤◌, Bool, true, false, cond, ◌&&◌, ltb, List, [], ◌∷◌, map, length, Some, None, sum_by, ◌≢◌, nat_le, nat_lt, refl}
 use Rattle.std.proofs.Common.{sym, ap, subst, ◌∙◌, inl, inr, mod-eq_of_lt, div-lt_iff_lt-mul, mod-lt, mul-le-mul_right, suc-mul, one-mul, div-mul-le_self, arith}
 use Rattle.std.proofs.Math.Nat.{mul-add-mod_self_right, mul-add-div_right, div-eq_of_lt}
-use Rattle.std.specs.List.{AllByRecursion as All}
+use Rattle.std.specs.List.{AllByRecursion}
 use Rattle.std.proofs.lemmas.Nat.{le-div}
 use Rattle.std.proofs.lemmas.List.{map_push, length-map}
 use Rattle.std.proofs.lemmas.List.Sums.{sum_by-cons}
@@ -38,11 +38,11 @@ same_both true = refl
 same_both false = refl
 
 module _ (F : ℕ) (m : Meaning) (law : Lawful m) where
-  all_low : (f : ℕ) → f < F → (ps : List Piece) → All (λ p. p.finish ≡ f) ps → All (λ p. p.finish < F) ps
+  all_low : (f : ℕ) → f < F → (ps : List Piece) → AllByRecursion (λ p. p.finish ≡ f) ps → AllByRecursion (λ p. p.finish < F) ps
   all_low f l [] h = tt
   all_low f l (p ∷ ps) h = (omega (arith, h.0), all_low f l ps h.1)
 
-  all_down : (f : ℕ) → f < F → (ps : List Piece) → All (λ p. p.finish ≡ f) ps → All (Admitted m) (map plain ps) → All (Admitted (finishes_by F m)) ps
+  all_down : (f : ℕ) → f < F → (ps : List Piece) → AllByRecursion (λ p. p.finish ≡ f) ps → AllByRecursion (Admitted m) (map plain ps) → AllByRecursion (Admitted (finishes_by F m)) ps
   all_down f l [] h a = tt
   all_down f l (p ∷ ps) h a =
       let e : ltb p.finish F ≡ true = lt-ltb p.finish F (omega (arith, h.0)) in
@@ -99,7 +99,7 @@ module _ (F : ℕ) (m : Meaning) (law : Lawful m) where
       }
 
   -- a measure of pieces that this layer passes on
-  sum_down : (f : Piece → ℕ) (ps : List Piece) → All (λ p. p.finish < F) ps → sum_by (λ p. cond (nat_lt p.finish F) (f (plain p)) 0) ps ≡ sum_by f (map plain ps)
+  sum_down : (f : Piece → ℕ) (ps : List Piece) → AllByRecursion (λ p. p.finish < F) ps → sum_by (λ p. cond (nat_lt p.finish F) (f (plain p)) 0) ps ≡ sum_by f (map plain ps)
   sum_down f [] h = refl
   sum_down f (p ∷ ps) h =
       sum_by-cons (λ p. cond (nat_lt p.finish F) (f (plain p)) 0) p ps
@@ -107,13 +107,13 @@ module _ (F : ℕ) (m : Meaning) (law : Lawful m) where
       ∙ ap (λ n. f (plain p) + n) (sum_down f ps h.1)
       ∙ sym (sum_by-cons f (plain p) (map plain ps))
 
-  full_down : (c : ℕ) (ps : List Piece) → has_class F m c ≡ true → All (λ p. p.finish < F) ps → full_with (finishes_by F m) c ps ≡ full_with m (below F m c) (map plain ps)
+  full_down : (c : ℕ) (ps : List Piece) → has_class F m c ≡ true → AllByRecursion (λ p. p.finish < F) ps → full_with (finishes_by F m) c ps ≡ full_with m (below F m c) (map plain ps)
   full_down c ps e h =
       let n = length-map ps plain in
       let l = sum_down m.load ps h in
       rw e (cc)
 
-  fits_down : (c : ℕ) (ps : List Piece) (p : Piece) → has_class F m c ≡ true → p.finish < F → All (λ p. p.finish < F) ps → fits_after (finishes_by F m) c ps p ≡ fits_after m (below F m c) (map plain ps) (plain p)
+  fits_down : (c : ℕ) (ps : List Piece) (p : Piece) → has_class F m c ≡ true → p.finish < F → AllByRecursion (λ p. p.finish < F) ps → fits_after (finishes_by F m) c ps p ≡ fits_after m (below F m c) (map plain ps) (plain p)
   fits_down c ps p e f h =
       let n = length-map ps plain in
       let l = sum_down m.load ps h in
@@ -121,8 +121,8 @@ module _ (F : ℕ) (m : Meaning) (law : Lawful m) where
 
   record Passed (c : ℕ) (ps : List Piece) : Type 0 where
     built : Built m (below F m c) (map plain ps)
-    low : All (λ p. p.finish < F) ps
-    same : All (λ p. p.finish ≡ (c - 1) / m.classes) ps
+    low : AllByRecursion (λ p. p.finish < F) ps
+    same : AllByRecursion (λ p. p.finish ≡ (c - 1) / m.classes) ps
 
   built_down : {c : ℕ} {ps : List Piece} → Built (finishes_by F m) c ps → Passed c ps
   built_down none_yet = record { built = none_yet; low = tt; same = tt }

@@ -1,6 +1,6 @@
 -- One more placed piece, and the groups by container number. Assumes nothing.
-use Rattle.std.proofs.Common.{◌≡◌, ℕ, ◌+◌, ◌<◌, ◌≤◌, Bool, cond, not, eqb, ◌⊎◌, List, [], ◌∷◌, ◌++◌, length, filter, sym, refl, ap, ◌∙◌, subst, inl, inr, arith}
-use Rattle.std.specs.List.{flat_map, AllByRecursion as All}
+use Rattle.std.proofs.Common.{◌≡◌, ℕ, ◌<◌, ◌≤◌, Bool, cond, not, eqb, ◌⊎◌, List, [], ◌∷◌, ◌++◌, length, filter, sym, refl, ap, ◌∙◌, subst, inl, inr, arith}
+use Rattle.std.specs.List.{flat_map, AllByRecursion}
 use Rattle.std.specs.List.Sorted.{IsPermutation}
 use Rattle.std.proofs.lemmas.List.{map-append, append-nil}
 use Rattle.std.proofs.lemmas.List.Elements.{filter-append}
@@ -30,7 +30,7 @@ pieces_push_same n qs q e = pieces_append n qs (q ∷ []) ∙ ap (λ l. pieces_i
 pub pieces_push_other : (n : ℕ) (qs : List Placed) (q : Placed) → (q.container ≡ n → ⊥) → pieces_in n (push qs q) ≡ pieces_in n qs
 pieces_push_other n qs q ne = pieces_append n qs (q ∷ []) ∙ ap (λ l. pieces_in n qs ++ l) (pieces_cons_other n q [] ne) ∙ append-nil _
 
-pub pieces_none : (n : ℕ) (qs : List Placed) → All (λ q. q.container ≡ n → ⊥) qs → pieces_in n qs ≡ []
+pub pieces_none : (n : ℕ) (qs : List Placed) → AllByRecursion (λ q. q.container ≡ n → ⊥) qs → pieces_in n qs ≡ []
 pieces_none n [] h = refl
 pieces_none n (q ∷ qs) h = pieces_cons_other n q qs h.0 ∙ pieces_none n qs h.1
 
@@ -56,7 +56,7 @@ pub class_push_other : (n : ℕ) (qs : List Placed) (q : Placed) → (q.containe
 class_push_other n [] q ne = class_cons_other n q [] ne
 class_push_other n (r ∷ qs) q ne = ap (λ c. cond (eqb r.container n) r.class c) (class_push_other n qs q ne)
 
-pub class_push_new : (n : ℕ) (qs : List Placed) (q : Placed) → All (λ r. r.container ≡ n → ⊥) qs → q.container ≡ n → class_in n (push qs q) ≡ q.class
+pub class_push_new : (n : ℕ) (qs : List Placed) (q : Placed) → AllByRecursion (λ r. r.container ≡ n → ⊥) qs → q.container ≡ n → class_in n (push qs q) ≡ q.class
 class_push_new n [] q h e = class_cons_same n q [] e
 class_push_new n (r ∷ qs) q h e = class_cons_other n r (push qs q) h.0 ∙ class_push_new n qs q h.1 e
 
@@ -76,14 +76,14 @@ but_last_other c n ns ne =
     filter-append (λ k. not (eqb k c)) ns (n ∷ [])
     ∙ ap (λ b. but c ns ++ cond (not b) (n ∷ []) []) (ne_eqb n c ne)
 
-pub numbers_push_new : (qs : List Placed) (q : Placed) → All (λ r. r.container ≡ q.container → ⊥) qs → numbers (push qs q) ≡ numbers qs ++ (q.container ∷ [])
+pub numbers_push_new : (qs : List Placed) (q : Placed) → AllByRecursion (λ r. r.container ≡ q.container → ⊥) qs → numbers (push qs q) ≡ numbers qs ++ (q.container ∷ [])
 numbers_push_new [] q h = refl
 numbers_push_new (r ∷ qs) q h =
     ap (λ l. r.container ∷ but r.container l) (numbers_push_new qs q h.1)
     ∙ ap (λ l. r.container ∷ l) (but_last_other r.container q.container (numbers qs) (λ e. h.0 (sym e)))
 
 -- container n has a piece, or none has that number
-some_or_none : (n : ℕ) (qs : List Placed) → (0 < length (pieces_in n qs)) ⊎ All (λ r. r.container ≡ n → ⊥) qs
+some_or_none : (n : ℕ) (qs : List Placed) → (0 < length (pieces_in n qs)) ⊎ AllByRecursion (λ r. r.container ≡ n → ⊥) qs
 some_or_none n [] = inr tt
 some_or_none n (r ∷ qs) =
     elim (cases_Bool (eqb r.container n)) [
@@ -115,7 +115,7 @@ numbers_push_found (r ∷ qs) q h =
     ]
 
 -- the groups, joined, are the pieces in some order
-pub regrouped : (top : ℕ) (qs : List Placed) → All (λ q. (1 ≤ q.container) × (q.container ≤ top)) qs → IsPermutation (flat_map (λ n. pieces_in n qs) (upto top)) (pieces_of qs)
+pub regrouped : (top : ℕ) (qs : List Placed) → AllByRecursion (λ q. (1 ≤ q.container) × (q.container ≤ top)) qs → IsPermutation (flat_map (λ n. pieces_in n qs) (upto top)) (pieces_of qs)
 regrouped top [] h = subst (λ l. IsPermutation l []) (sym (joined_none top)) (IsPermutation-refl [])
 regrouped top (q ∷ qs) h =
     IsPermutation-trans _ _ _

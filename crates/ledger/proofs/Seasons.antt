@@ -1,6 +1,6 @@
 -- Every season over a lawful kind keeps its promise. Assumes nothing.
 use Rattle.std.proofs.Common.{◌≡◌, ℕ, suc, ◌+◌, ◌-◌, ◌*◌, ◌<◌, ◌≤◌, Bool, true, false, cond, ◌&&◌, ◌||◌, eqb, ltb, leb, ◌⊎◌, List, [], ◌∷◌, ◌++◌, Some, None, Ok, Err, sum_by, Option, Result, sym, refl, ap, ◌∙◌, subst, inl, inr, mul-le-mul_left, mul-zero, mul-add, add-one, arith}
-use Rattle.std.specs.List.{flat_map, AllByRecursion as All}
+use Rattle.std.specs.List.{flat_map, AllByRecursion}
 use Rattle.std.specs.List.Sorted.{IsPermutation}
 use Rattle.std.proofs.lemmas.List.{flat_map_more, append-nil, get_or-replicate, length_push}
 use Rattle.std.proofs.ByRecursion.{All-weaker, All-map}
@@ -14,7 +14,7 @@ use Rattle.refusals.specs.declared.PutRefusal.TheVariants.{NoNumber, NotAdmitted
 use Rattle.ledger.specs.declared.Placing.{Placing}
 use Rattle.ledger.specs.declared.Slot.{Slot}
 use Rattle.ledger.specs.declared.Ledger.{Ledger}
-use Rattle.kinds.specs.Kind.{Meaning, Lawful, Admitted, Built, one_more, none_yet, level, weights, full_with, fits_after}
+use Rattle.kinds.specs.Kind.{Meaning, Lawful, Admitted, Built, one_more, none_yet, weights, full_with, fits_after}
 use Rattle.ledger.specs.Rules.{upto, floor_of, open_in, stands, nothing, new_ledger, found, fits_found, goes_on, taking, placing, closings, closes_after, kind_answer, put_answer, ledger_after, ledger_by, report, Call, a_put, a_report, Ran, made, then_put, then_report}
 use Rattle.ledger.specs.Season.{Container, AllowedContainer, AllowedPacking, cost_of, standing_cost, Placed, placed_by, placed, pieces_of, pieces_in, class_in, numbers, container_in, grouped, Season}
 use Rattle.ledger.specs.Season.{CapIdle}
@@ -65,7 +65,7 @@ module _ (m : Meaning) (law : Lawful m) (qs : List Placed) (s : Ledger) (sound :
         ratio = rw up (going_sum _ _ (found m s p).weight _ _ (m.unit * m.cost (m.class p)) sound.ratio);
       }
 
-  not_yet : All (λ q. q.container ≡ s.opened + 1 → ⊥) qs
+  not_yet : AllByRecursion (λ q. q.container ≡ s.opened + 1 → ⊥) qs
   not_yet = All-weaker (λ q. (1 ≤ q.container) × (q.container ≤ s.opened)) _ (λ q h e. omega (arith, h.1, e)) qs sound.within
 
   none_in : pieces_in (s.opened + 1) qs ≡ []
@@ -200,7 +200,7 @@ module _ (m : Meaning) (law : Lawful m) (h : List Call) (s : Ledger) (sound : So
   packed : AllowedPacking m (pieces_of (placed h)) (grouped m (placed h))
   packed = record {
     each_allowed = All-map (AllowedContainer m) (container_in m (placed h)) (numbers (placed h))
-        (subst (All (λ n. AllowedContainer m (container_in m (placed h) n))) (sym sound.in_turn)
+        (subst (AllByRecursion (λ n. AllowedContainer m (container_in m (placed h) n))) (sym sound.in_turn)
         (all_upto _ s.opened (λ n a b. let g : Group m (placed h) n = sound.groups n a b in (g.costs, g.allowed))));
     same_pieces = subst (λ l. IsPermutation l (pieces_of (placed h)))
         (sym (joined_over_map (λ k. k.pieces) (container_in m (placed h)) (numbers (placed h)) ∙ ap (flat_map (λ k. pieces_in k (placed h))) sound.in_turn))
@@ -213,7 +213,7 @@ module _ (m : Meaning) (law : Lawful m) (h : List Call) (s : Ledger) (sound : So
       ∙ ap (sum_by (λ k. m.cost (class_in k (placed h)))) sound.in_turn
       ∙ sound.used
 
-packing_light : (m : Meaning) → Lawful m → (ks : List Container) → All (AllowedContainer m) ks → weights m (flat_map (λ k. k.pieces) ks) ≤ m.ceiling * cost_of ks
+packing_light : (m : Meaning) → Lawful m → (ks : List Container) → AllByRecursion (AllowedContainer m) ks → weights m (flat_map (λ k. k.pieces) ks) ≤ m.ceiling * cost_of ks
 packing_light m law [] h = omega arith
 packing_light m law (k ∷ ks) h =
     let here : weights m k.pieces ≤ m.ceiling * k.cost = law.allowed_weighs_at_most k.pieces k.cost h.0.0 h.0.1 in

@@ -1,6 +1,6 @@
 -- One accepted put keeps the ledger sound. Assumes nothing.
 use Rattle.std.proofs.Common.{◌≡◌, ℕ, ◌+◌, ◌-◌, ◌*◌, ◌<◌, ◌≤◌, Bool, true, false, cond, not, List, [], ◌∷◌, ◌++◌, length, set, sum_by, sym, refl, ap, ◌∙◌, subst, inl, inr, mul-add, arith}
-use Rattle.std.specs.List.{AllByRecursion as All}
+use Rattle.std.specs.List.{AllByRecursion}
 use Rattle.std.proofs.lemmas.List.{length-set, get_or-set_same, get_or-set_other, length_push, map_push}
 use Rattle.std.proofs.ByRecursion.{All-push, All-weaker}
 use Rattle.std.proofs.lemmas.List.Sums.{sum_by_push}
@@ -8,7 +8,7 @@ use Rattle.std.proofs.lemmas.Bool.{cases_eq, ne_eqb, true≢false}
 use Rattle.kinds.specs.declared.piece.Piece.{Piece}
 use Rattle.ledger.specs.declared.Slot.{Slot}
 use Rattle.ledger.specs.declared.Ledger.{Ledger}
-use Rattle.kinds.specs.Kind.{Meaning, Lawful, Admitted, Built, one_more, level, weights, full_with}
+use Rattle.kinds.specs.Kind.{Meaning, Lawful, Admitted, Built, one_more, weights, full_with}
 use Rattle.ledger.specs.Rules.{upto, open_in, stands, nothing}
 use Rattle.ledger.specs.Season.{Placed, pieces_of, pieces_in, class_in}
 use Rattle.ledger.proofs.Uptos.{sum_change}
@@ -111,13 +111,13 @@ module _ (m : Meaning) (law : Lawful m) (qs : List Placed) (s : Ledger) (sound :
         standing = o.standing;
       })
 
-  classes_then : All (λ r. r.class ≡ class_in r.container (push qs (placed_in m p t))) (push qs (placed_in m p t))
+  classes_then : AllByRecursion (λ r. r.class ≡ class_in r.container (push qs (placed_in m p t))) (push qs (placed_in m p t))
   classes_then =
       All-push _ qs (placed_in m p t)
       (both qs sound.within sound.classes)
       (sym ready.ours_then)
     where
-      both : (rs : List Placed) → All (λ r. (1 ≤ r.container) × (r.container ≤ s.opened)) rs → All (λ r. r.class ≡ class_in r.container qs) rs → All (λ r. r.class ≡ class_in r.container (push qs (placed_in m p t))) rs
+      both : (rs : List Placed) → AllByRecursion (λ r. (1 ≤ r.container) × (r.container ≤ s.opened)) rs → AllByRecursion (λ r. r.class ≡ class_in r.container qs) rs → AllByRecursion (λ r. r.class ≡ class_in r.container (push qs (placed_in m p t))) rs
       both [] h k = tt
       both (r ∷ rs) h k = (k.0 ∙ sym (class_push_found r.container qs (placed_in m p t) (sound.groups r.container h.0.0 h.0.1).some), both rs h.1 k.1)
 

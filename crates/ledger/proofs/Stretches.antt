@@ -1,6 +1,6 @@
 -- Pieces whose places were told do not overlap. Assumes nothing.
 use Rattle.std.proofs.Common.{◌≡◌, ℕ, ◌+◌, ◌≤◌, List, [], ◌∷◌, ◌++◌, IfOk, None, Ok, Err, Result, sym, refl, ap, ◌∙◌, subst, inl, inr, arith}
-use Rattle.std.specs.List.{AllByRecursion as All}
+use Rattle.std.specs.List.{AllByRecursion}
 use Rattle.std.proofs.lemmas.List.{flat_map_more, append-nil, map_push}
 use Rattle.std.proofs.ByRecursion.{All-push, All-weaker}
 use Rattle.std.proofs.lemmas.List.Sums.{sum_by_push}
@@ -63,7 +63,7 @@ covers_none m (a_report r) = refl
 covers_none m (a_put p (Err r)) = refl
 covers_none m (a_put p (Ok a)) = refl
 
-apart_push : (ts : List Stretch) (b : Stretch) → AllApart ts → All (λ t. Apart t b) ts → AllApart (ts ++ (b ∷ []))
+apart_push : (ts : List Stretch) (b : Stretch) → AllApart ts → AllByRecursion (λ t. Apart t b) ts → AllApart (ts ++ (b ∷ []))
 apart_push [] b h k = (tt, tt)
 apart_push (t ∷ ts) b h k = (All-push (Apart t) ts b h.0 k.0, apart_push ts b h.1 k.1)
 
@@ -72,9 +72,9 @@ abbrev Inside : Meaning → List Call → Stretch → Type 0
 Inside m h t = t.to ≤ level_in m t.container h
 
 -- what was inside stays so
-inside_then : (m : Meaning) (n : List Noted) (c : Noted) → All (Inside m (calls n)) (stretches m n) → All (Inside m (calls (n ++ (c ∷ [])))) (stretches m n)
+inside_then : (m : Meaning) (n : List Noted) (c : Noted) → AllByRecursion (Inside m (calls n)) (stretches m n) → AllByRecursion (Inside m (calls (n ++ (c ∷ [])))) (stretches m n)
 inside_then m n c h =
-    subst (λ l. All (Inside m l) (stretches m n)) (sym (calls_then n c))
+    subst (λ l. AllByRecursion (Inside m l) (stretches m n)) (sym (calls_then n c))
     (All-weaker (Inside m (calls n)) (Inside m (calls n ++ (c.call ∷ []))) (λ t i. omega (arith, i, level_grows m t.container (calls n) c.call)) (stretches m n) h)
 
 pub laid_season : (m : Meaning) {n : List Noted} → AtLevels m n → LaidSeason m n
@@ -85,7 +85,7 @@ laid_season m (then_silent {n = n} r c) =
     let same : stretches m (n ++ (x ∷ [])) ≡ stretches m n = stretches_then m n x ∙ ap (λ l. stretches m n ++ l) (covers_none m c) ∙ append-nil (stretches m n) in
     record {
       no_overlap = subst AllApart (sym same) old.no_overlap;
-      within_level = subst (All (Inside m (calls (n ++ (x ∷ []))))) (sym same) (inside_then m n x old.within_level);
+      within_level = subst (AllByRecursion (Inside m (calls (n ++ (x ∷ []))))) (sym same) (inside_then m n x old.within_level);
     }
 laid_season m (then_told {n = n} r p a) =
     let old : LaidSeason m n = laid_season m r in
@@ -93,11 +93,11 @@ laid_season m (then_told {n = n} r p a) =
     let x : Noted = telling at p (Ok a) in
     let b : Stretch = record { container = a.container; from = at; to = at + m.load p } in
     let more : stretches m (n ++ (x ∷ [])) ≡ stretches m n ++ (b ∷ []) = stretches_then m n x in
-    let front : All (λ t. Apart t b) (stretches m n) = All-weaker (Inside m (calls n)) (λ t. Apart t b) (λ t i e. inl (subst (λ k. t.to ≤ level_in m k (calls n)) e i)) (stretches m n) old.within_level in
+    let front : AllByRecursion (λ t. Apart t b) (stretches m n) = All-weaker (Inside m (calls n)) (λ t. Apart t b) (λ t i e. inl (subst (λ k. t.to ≤ level_in m k (calls n)) e i)) (stretches m n) old.within_level in
     let here : Inside m (calls (n ++ (x ∷ []))) b = subst (λ l. Inside m l b) (sym (calls_then n x)) (omega (arith, level_more m a.container (calls n) p a refl)) in
     record {
       no_overlap = subst AllApart (sym more) (apart_push (stretches m n) b old.no_overlap front);
-      within_level = subst (All (Inside m (calls (n ++ (x ∷ []))))) (sym more) (All-push _ (stretches m n) b (inside_then m n x old.within_level) here);
+      within_level = subst (AllByRecursion (Inside m (calls (n ++ (x ∷ []))))) (sym more) (All-push _ (stretches m n) b (inside_then m n x old.within_level) here);
     }
 
 -- any call that tells no place, as a step of such a season
@@ -110,7 +110,7 @@ module _ (m : Meaning) (law : Lawful m) (qs : List Placed) (s : Ledger) (sound :
   taking_at_level : (taking m s p).level ≡ level m (pieces_in (taking m s p).container qs)
   taking_at_level =
       let range = law.admitted_has_class p admitted in
-      let not_yet : All (λ q. q.container ≡ s.opened + 1 → ⊥) qs = All-weaker (λ q. (1 ≤ q.container) × (q.container ≤ s.opened)) _ (λ q h e. omega (arith, h.1, e)) qs sound.within in
+      let not_yet : AllByRecursion (λ q. q.container ≡ s.opened + 1 → ⊥) qs = All-weaker (λ q. (1 ≤ q.container) × (q.container ≤ s.opened)) _ (λ q h e. omega (arith, h.1, e)) qs sound.within in
       cond_both (goes_on m s p) (found m s p) _ (λ (t : Slot). t.level ≡ level m (pieces_in t.container qs))
       (λ e. (sound.opens (m.class p) range.0 (omega (arith, range.1, law.few_classes)) (and_parts (stands (found m s p)) (fits_found m s p) e).0).tells.level)
       (λ e. sym (ap (level m) (pieces_none (s.opened + 1) qs not_yet)))
