@@ -11,3 +11,4 @@ pub mod Factors
 pub mod Light
 pub mod BarLaws
 pub mod ToteLaws
+pub mod LaidLaws

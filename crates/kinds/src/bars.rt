@@ -1,8 +1,7 @@
 // Bars of one capacity, in harmonic classes: class j holds j pieces, the last class what fits.
-ghost use Rattle.std.specs.Prelude.{◌≡◌, ◌≤◌, Some, None, MatchResult};
+ghost use Rattle.std.specs.Prelude.{◌≡◌, ◌≤◌, Some, None, MatchResult, refl};
 ghost use Rattle.kinds.specs.Bars.{bars, bars_refusal};
 ghost use Rattle.kinds.specs.BarLaws.{bars_lawful};
-ghost use Rattle.std.proofs.Common.{refl};
 
 use crate::Kind;
 use crate::figures::{ceiling_factor_of, last_factor_of, unit_factor_of};

@@ -4,7 +4,7 @@ ghost use Rattle.kinds.specs.Kind.{told};
 ghost use Rattle.kinds.specs.Bars.{bars};
 ghost use Rattle.kinds.specs.Strips.{strips};
 ghost use Rattle.kinds.specs.Laid.{Layout, LaidOut, side_by_side};
-ghost use Rattle.std.proofs.Common.{rules};
+ghost use Rattle.kinds.specs.LaidLaws.{side_by_side_laid};
 
 use crate::Kind;
 use crate::bars::Bars;
@@ -37,7 +37,7 @@ fn begins(refusal: Option<PieceRefusal>, level: u32) -> u32
 impl Laid for Bars {
     ghost layout = { λ b. side_by_side (bars b.capacity b.k) };
 
-    ghost laid = { Prim.search rules };
+    ghost laid = { λ b. side_by_side_laid (bars b.capacity b.k) };
 
     fn place(&self, level: u32, rail: &Piece) -> u32 {
         begins(self.refusal(rail), level)
@@ -47,7 +47,7 @@ impl Laid for Bars {
 impl Laid for Strips {
     ghost layout = { λ s. side_by_side (strips s.width) };
 
-    ghost laid = { Prim.search rules };
+    ghost laid = { λ s. side_by_side_laid (strips s.width) };
 
     fn place(&self, level: u32, cloth: &Piece) -> u32 {
         begins(self.refusal(cloth), level)

@@ -1,9 +1,8 @@
 // Strips of one width, cut into rows: a row's height is the least power of two that its pieces
 // need, narrow pieces lie side by side in one and a wide piece has one to itself.
-ghost use Rattle.std.specs.Prelude.{◌≡◌, ℕ, ◌^◌, ◌≤◌, Some, None, MatchResult};
+ghost use Rattle.std.specs.Prelude.{◌≡◌, ℕ, ◌^◌, ◌≤◌, Some, None, MatchResult, refl};
 ghost use Rattle.kinds.specs.Strips.{strips, strips_refusal, rank, row_height};
 ghost use Rattle.kinds.specs.StripLaws.{strips_lawful};
-ghost use Rattle.std.proofs.Common.{refl};
 
 use crate::Kind;
 use crate::piece::Piece;

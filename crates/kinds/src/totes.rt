@@ -1,8 +1,7 @@
 // Totes: a mass as a bar has a length, and at most so many pieces.
-ghost use Rattle.std.specs.Prelude.{◌≡◌, ◌*◌, ◌^◌, ◌<◌, ◌≤◌, Some, None, MatchResult};
+ghost use Rattle.std.specs.Prelude.{◌≡◌, ◌*◌, ◌^◌, ◌<◌, ◌≤◌, Some, None, MatchResult, refl};
 ghost use Rattle.kinds.specs.Totes.{totes, totes_refusal};
 ghost use Rattle.kinds.specs.ToteLaws.{totes_lawful};
-ghost use Rattle.std.proofs.Common.{refl};
 
 use crate::Kind;
 use crate::bars::Bars;

@@ -4,3 +4,4 @@ pub mod Laid
 pub mod AllowanceLaws
 pub mod Mapped
 pub mod FinishLaws
+pub mod LaidLaws

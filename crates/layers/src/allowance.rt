@@ -2,7 +2,6 @@
 ghost use Rattle.std.specs.Prelude.{◌≡◌, ◌≤◌, Some, None, MatchResult};
 ghost use Rattle.layers.specs.Allowance.{widened, allowance, allowance_refusal};
 ghost use Rattle.layers.specs.AllowanceLaws.{allowance_lawful};
-ghost use Rattle.std.proofs.Common.{rules};
 
 use kinds::Kind;
 use kinds::piece::Piece;
@@ -46,7 +45,7 @@ impl<K: Kind> Kind for Allowance<K> {
 
     ghost meaning = { λ a. allowance a.amount (K.meaning a.below) };
 
-    ghost coded = { Prim.search rules };
+    ghost coded = { λ a. K.coded a.below };
 
     ghost lawful = { λ a. allowance_lawful a.amount _ (K.lawful a.below) };
 

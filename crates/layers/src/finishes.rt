@@ -2,7 +2,6 @@
 ghost use Rattle.std.specs.Prelude.{◌≡◌, ◌*◌, ◌≤◌, true, Some, None, MatchResult, nat_le};
 ghost use Rattle.layers.specs.Finishes.{plain, below as below_class, has_class, reckoned, finishes, finishes_refusal};
 ghost use Rattle.layers.specs.FinishLaws.{finishes_lawful};
-ghost use Rattle.std.proofs.Common.{rules};
 
 use kinds::Kind;
 use kinds::piece::Piece;
@@ -81,7 +80,7 @@ impl<K: Kind> Kind for Finishes<K> {
 
     ghost meaning = { λ l. finishes l.count (K.meaning l.below) };
 
-    ghost coded = { Prim.search rules };
+    ghost coded = { λ l. K.coded l.below };
 
     ghost lawful = { λ l. finishes_lawful l.count _ (K.lawful l.below) l.some };
 

@@ -1,6 +1,6 @@
 // A layer over a laid kind is laid: it asks below where the piece lies that it passes down.
 ghost use Rattle.layers.specs.Laid.{allowance_layout, finishes_layout};
-ghost use Rattle.std.proofs.Common.{rules};
+ghost use Rattle.layers.specs.LaidLaws.{allowance_laid, finishes_laid};
 
 use crate::allowance::{Allowance, widen};
 use crate::finishes::{Finishes, bare, known};
@@ -11,7 +11,7 @@ use kinds::piece::Piece;
 impl<L: Laid> Laid for Allowance<L> {
     ghost layout = { λ a. allowance_layout a.amount (L.layout a.below) };
 
-    ghost laid = { Prim.search rules };
+    ghost laid = { λ a. allowance_laid a.amount (L.laid a.below) };
 
     fn place(&self, level: u32, piece: &Piece) -> u32 {
         self.below.place(level, &widen(self.amount, piece))
@@ -21,7 +21,7 @@ impl<L: Laid> Laid for Allowance<L> {
 impl<L: Laid> Laid for Finishes<L> {
     ghost layout = { λ l. finishes_layout l.count (L.meaning l.below) (L.layout l.below) };
 
-    ghost laid = { Prim.search rules };
+    ghost laid = { λ l. finishes_laid l.count (L.laid l.below) };
 
     fn place(&self, level: u32, piece: &Piece) -> u32 {
         if piece.finish < known(self) {

@@ -71,7 +71,7 @@ module _ (m : Meaning) (s : Ledger) (p : Piece) where
   abbrev pub found : Slot
   found = open_in s (m.class p)
 
-  -- The kind's word, and a level of at most 1,000,000: `cap_idle` says that on a reached ledger the first has it all.
+  -- The kind's word, and a level of at most 1,000,000: `CapIdle` says that on a reached ledger the first has it all.
   abbrev pub fits_found : Bool
   fits_found = nat_le (found.level + m.load p) 1000000 && m.fits (m.class p) found.count found.level p
 
