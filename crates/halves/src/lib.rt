@@ -202,7 +202,7 @@ mod tests {
         Ok(())
     }
 
-    // No contract can speak of a layer's constant, so it is tested.
+    // No contract says what a layer's constant is, so it is tested.
     #[test]
     fn codes(rt: HostRuntime) {
         assert_eq!(rt; <Finishes<Allowance<Halves>> as Kind>::CODE, 9);

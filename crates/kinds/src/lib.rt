@@ -20,7 +20,7 @@ pub trait Kind {
     // The kind code: 1 for bars, 2 for totes, 3 for strips.
     const CODE: u8;
 
-    // the kind code again, for contracts: nothing can be said of a constant under a bound
+    // the kind code again, which contracts cite
     ghost code: { ℕ };
 
     // all that the kind tells, as one value

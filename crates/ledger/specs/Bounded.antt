@@ -4,7 +4,7 @@ use Rattle.ledger.specs.declared.Slot.{Slot}
 use Rattle.ledger.specs.declared.Ledger.{Ledger}
 use Rattle.ledger.specs.Rules.{nothing}
 
--- A ghost field cites these, so they are products: antt does not see that a record is a proposition.
+-- of one slot, beside its ledger
 abbrev pub Within : Ledger → Slot → Type 0
 Within s t = (t.count ≤ s.accepted) × (t.level ≤ 1000000) × (t.weight ≤ s.weight)
 

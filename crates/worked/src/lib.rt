@@ -14,9 +14,12 @@ pub fn worked_cases() -> u8
 mod tests {
     use kinds::Kind;
     use kinds::bars::Bars;
+    use kinds::laid::Laid;
     use kinds::piece::Piece;
     use kinds::strips::Strips;
     use kinds::totes::Totes;
+    use layers::allowance::Allowance;
+    use layers::finishes::Finishes;
     use refusals::{MakeRefusal, PieceRefusal};
     use std::test::Fail;
 
@@ -72,6 +75,24 @@ mod tests {
             assert_eq!(rt; strips.weight(&piece(width, height, 0)), weight);
             assert_eq!(rt; strips.cost(class), cost);
         }
+        Ok(())
+    }
+
+    // An admitted piece begins at the level that it finds; one that is refused has place 0.
+    #[test]
+    fn places(rt: HostRuntime) -> Result<(), Fail> {
+        let bars = Bars::new(12, 3)?;
+        assert_eq!(rt; bars.place(7, &piece(5, 0, 0)), 7);
+        assert_eq!(rt; bars.place(7, &piece(13, 0, 0)), 0);
+        let strips = Strips::new(10)?;
+        assert_eq!(rt; strips.place(5, &piece(5, 3, 0)), 5);
+        assert_eq!(rt; strips.place(5, &piece(5, 0, 0)), 0);
+        let cut = Allowance::new(1, Bars::new(12, 3)?)?;
+        assert_eq!(rt; cut.place(3, &piece(11, 0, 0)), 3);
+        assert_eq!(rt; cut.place(3, &piece(12, 0, 0)), 0);
+        let finished = Finishes::new(2, Bars::new(12, 3)?)?;
+        assert_eq!(rt; finished.place(4, &piece(5, 0, 1)), 4);
+        assert_eq!(rt; finished.place(4, &piece(5, 0, 2)), 0);
         Ok(())
     }
 
