@@ -119,6 +119,7 @@ mod tests {
     use kinds::strips::Strips;
     use layers::allowance::Allowance;
     use layers::finishes::Finishes;
+    use refusals::Refusal;
     use std::test::Fail;
 
     fn piece(first: u32, second: u32, finish: u8) -> Piece {
