@@ -1,59 +1,78 @@
-// The figures of a class number k from 2 to 12.
-ghost use Rattle.std.specs.Prelude.{◌≡◌, ℕ, ◌-◌, ◌*◌, ◌%◌, ◌<◌, ◌≤◌, slice_index};
+// The figures of a class number.
+ghost use Rattle.std.specs.Prelude.{◌≡◌, ℕ, ◌-◌, ◌*◌, ◌%◌, ◌<◌, ◌≤◌, false, MatchResult, slice_index};
+ghost use Rattle.refusals.specs.declared.MakeRefusal.TheVariants.{ClassNumber as NoClassNumber};
+ghost use Rattle.kinds.specs.Kind.{between};
 ghost use Rattle.kinds.specs.Figures.{multiple, listed_multiples, unit_factor, ceiling_factor};
+
+use refusals::MakeRefusal;
 
 // The least common multiple of 1 to k - 1, for k from 2 on.
 const MULTIPLES: [u64; 11] = [1, 2, 6, 12, 60, 60, 420, 840, 2520, 2520, 27720];
 
-// What the ceiling is for each unit of capacity, for k from 2 on.
+// What the ceiling is for each unit of capacity, for k from 2 on. A table of its own: of pairs it
+// would be no plainer, since L is proved what it is and p is what its list says.
 const CEILING_FACTORS: [u64; 11] = [2, 7, 31, 82, 510, 610, 4980, 11380, 38400, 42660, 516120];
 
-fn listed_multiple(k: u8) -> u64
-    requires many { 2 ≤ k }
-    requires few { k ≤ 12 }
-    ensures { result ≡ slice_index listed_multiples (k - 2) }
-{
-    MULTIPLES[(k - 2) as usize]
+// From 2 to 12: so many harmonic classes.
+#[derive(Clone, Copy, PartialEq, Eq, Debug)]
+pub struct ClassNumber {
+    pub value: u8,
+    ghost many: { 2 ≤ value },
+    ghost few: { value ≤ 12 },
 }
 
-// L: a multiple of each of 1 to k - 1, and the least.
-pub(crate) fn multiple_of(k: u8) -> u64
-    requires many { 2 ≤ k }
-    requires few { k ≤ 12 }
-    ensures value { result ≡ multiple k }
-    ensures common { (j : ℕ) → 1 ≤ j → j < k → result % j ≡ 0 }
-    ensures least { (n : ℕ) → 1 ≤ n → ((j : ℕ) → 1 ≤ j → j < k → n % j ≡ 0) → result ≤ n }
-    ensures most { result ≤ 27720 }
-{
-    listed_multiple(k)
+impl TryFrom<u32> for ClassNumber {
+    type Error = MakeRefusal;
+
+    ghost try_from_gives = { λ n r. MatchResult r (λ k. k.value ≡ n) (λ e. (between 2 12 n ≡ false) × (e ≡ NoClassNumber)) };
+
+    fn try_from(value: u32) -> Result<ClassNumber, MakeRefusal> {
+        if (2..=12).contains(&value) {
+            Ok(ClassNumber { value: value as u8 })
+        } else {
+            Err(MakeRefusal::ClassNumber)
+        }
+    }
 }
 
-// u: what the unit is for each unit of capacity.
-pub(crate) fn unit_factor_of(k: u8) -> u64
-    requires many { 2 ≤ k }
-    requires few { k ≤ 12 }
-    ensures value { result ≡ unit_factor k }
-    ensures most { result ≤ 304920 }
-{
-    (k - 1) as u64 * multiple_of(k)
-}
+impl ClassNumber {
+    fn listed_multiple(self) -> u64
+        ensures { result ≡ slice_index listed_multiples (self.value - 2) }
+    {
+        MULTIPLES[(self.value - 2) as usize]
+    }
 
-// What a piece of the last class weighs for each unit of its length.
-pub(crate) fn last_factor_of(k: u8) -> u64
-    requires many { 2 ≤ k }
-    requires few { k ≤ 12 }
-    ensures value { result ≡ k * multiple k }
-    ensures most { result ≤ 332640 }
-{
-    k as u64 * multiple_of(k)
-}
+    // L: a multiple of each of 1 to k - 1, and the least.
+    pub(crate) fn multiple(self) -> u64
+        ensures value { result ≡ multiple self.value }
+        ensures common { (j : ℕ) → 1 ≤ j → j < self.value → result % j ≡ 0 }
+        ensures least { (n : ℕ) → 1 ≤ n → ((j : ℕ) → 1 ≤ j → j < self.value → n % j ≡ 0) → result ≤ n }
+        ensures most { result ≤ 27720 }
+    {
+        self.listed_multiple()
+    }
 
-// p: what the ceiling is for each unit of capacity.
-pub(crate) fn ceiling_factor_of(k: u8) -> u64
-    requires many { 2 ≤ k }
-    requires few { k ≤ 12 }
-    ensures value { result ≡ ceiling_factor k }
-    ensures most { result ≤ 516120 }
-{
-    CEILING_FACTORS[(k - 2) as usize]
+    // u: what the unit is for each unit of capacity.
+    pub(crate) fn unit_factor(self) -> u64
+        ensures value { result ≡ unit_factor self.value }
+        ensures most { result ≤ 304920 }
+    {
+        (self.value - 1) as u64 * self.multiple()
+    }
+
+    // What a piece of the last class weighs for each unit of its length.
+    pub(crate) fn last_factor(self) -> u64
+        ensures value { result ≡ self.value * multiple self.value }
+        ensures most { result ≤ 332640 }
+    {
+        self.value as u64 * self.multiple()
+    }
+
+    // p: what the ceiling is for each unit of capacity.
+    pub(crate) fn ceiling_factor(self) -> u64
+        ensures value { result ≡ ceiling_factor self.value }
+        ensures most { result ≤ 516120 }
+    {
+        CEILING_FACTORS[(self.value - 2) as usize]
+    }
 }

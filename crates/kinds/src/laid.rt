@@ -35,9 +35,9 @@ fn begins(refusal: Option<PieceRefusal>, level: u32) -> u32
 }
 
 impl Laid for Bars {
-    ghost layout = { λ b. side_by_side (bars b.capacity b.k) };
+    ghost layout = { λ b. side_by_side (bars b.capacity.value b.k.value) };
 
-    ghost laid = { λ b. side_by_side_laid (bars b.capacity b.k) };
+    ghost laid = { λ b. side_by_side_laid (bars b.capacity.value b.k.value) };
 
     fn place(&self, level: u32, rail: &Piece) -> u32 {
         begins(self.refusal(rail), level)
@@ -45,9 +45,9 @@ impl Laid for Bars {
 }
 
 impl Laid for Strips {
-    ghost layout = { λ s. side_by_side (strips s.width) };
+    ghost layout = { λ s. side_by_side (strips s.width.value) };
 
-    ghost laid = { λ s. side_by_side_laid (strips s.width) };
+    ghost laid = { λ s. side_by_side_laid (strips s.width.value) };
 
     fn place(&self, level: u32, cloth: &Piece) -> u32 {
         begins(self.refusal(cloth), level)

@@ -5,7 +5,8 @@ ghost use Rattle.std.specs.Prelude.{◌≡◌, ℕ};
 ghost use Rattle.kinds.specs.Kind.{Meaning, Lawful};
 
 pub mod bars;
-mod figures;
+pub mod capacity;
+pub mod figures;
 pub mod laid;
 pub mod piece;
 pub mod strips;
@@ -15,19 +16,17 @@ use piece::Piece;
 use refusals::PieceRefusal;
 
 // A lawful kind of container. Of a piece that is not admitted, and of a class that it does not
-// have, a kind tells 0 or no.
+// have, a kind tells 0 or no. An Option would be no plainer: the law says 0, and the archive has 0
+// for what is absent, so each caller would turn None back into it.
 pub trait Kind {
-    // The kind code: 1 for bars, 2 for totes, 3 for strips.
+    // The kind code: 1 for bars, 2 for totes, 3 for strips. A number and no enum, since any crate may
+    // add a kind, and no list here could name it.
     const CODE: u8;
 
-    // the kind code again, which contracts cite
-    ghost code: { ℕ };
+    ghost CODE: { ℕ };
 
     // all that the kind tells, as one value
     ghost meaning: { Self → Meaning };
-
-    fn kind_code() -> u8
-        ensures { result ≡ code };
 
     // Why the piece is not admitted, or None where it is.
     fn refusal(&self, piece: &Piece) -> Option<PieceRefusal>
@@ -63,7 +62,8 @@ pub trait Kind {
     fn load(&self, piece: &Piece) -> u32
         ensures { result ≡ (meaning self.now).load piece.now };
 
-    // Whether a container of the class takes the piece, at this count and level.
+    // Whether a container of the class takes the piece, at this count and level. The two come apart: a
+    // struct of them would be no plainer, as a slot has two numbers more and each call would make it.
     fn fits(&self, class: u8, count: u32, level: u32, piece: &Piece) -> bool
         ensures { result ≡ (meaning self.now).fits class count level piece.now };
 
@@ -71,7 +71,7 @@ pub trait Kind {
     fn full(&self, class: u8, count: u32, level: u32) -> bool
         ensures { result ≡ (meaning self.now).full class count level };
 
-    ghost coded: { (k : Self) → (meaning k).code ≡ code };
+    ghost coded: { (k : Self) → (meaning k).code ≡ CODE };
 
     ghost lawful: { (k : Self) → Lawful (meaning k) };
 }

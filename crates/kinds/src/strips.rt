@@ -5,23 +5,20 @@ ghost use Rattle.kinds.specs.Strips.{strips, strips_refusal, rank, row_height};
 ghost use Rattle.kinds.specs.StripLaws.{strips_lawful};
 
 use crate::Kind;
+use crate::capacity::Capacity;
 use crate::piece::Piece;
 use refusals::{MakeRefusal, PieceRefusal};
 
-#[derive(Clone, Copy)]
+#[derive(Clone, Copy, PartialEq, Eq, Debug)]
 pub struct Strips {
-    pub width: u32,
-    ghost some: { 1 ≤ width },
-    ghost most: { width ≤ 1000000 },
+    pub width: Capacity,
 }
 
 impl Strips {
     pub fn new(width: u32) -> Result<Strips, MakeRefusal>
-        ensures { MatchResult result (λ s. (strips_refusal width ≡ None) × (s.width ≡ width)) (λ e. strips_refusal width ≡ Some e) }
+        ensures { MatchResult result (λ s. (strips_refusal width ≡ None) × (s.width.value ≡ width)) (λ e. strips_refusal width ≡ Some e) }
     {
-        if !(1 <= width && width <= 1_000_000) {
-            return Err(MakeRefusal::Capacity);
-        }
+        let width = Capacity::try_from(width)?;
         Ok(Strips { width })
     }
 }
@@ -42,36 +39,30 @@ fn rank_of(height: u32) -> u8
 fn row_height_of(class: u8) -> u64
     ensures { result ≡ row_height class }
 {
-    if 1 <= class && class <= 13 {
-        1 << (class - 1)
-    } else if 14 <= class && class <= 26 {
-        1 << (class - 14)
-    } else {
-        0
+    match class {
+        1..=13 => 1 << (class - 1),
+        14..=26 => 1 << (class - 14),
+        _ => 0,
     }
 }
 
 impl Kind for Strips {
     const CODE: u8 = 3;
 
-    ghost code = { 3 };
+    ghost CODE = { 3 };
 
-    ghost meaning = { λ s. strips s.width };
+    ghost meaning = { λ s. strips s.width.value };
 
     ghost coded = { λ s. refl };
 
-    ghost lawful = { λ s. strips_lawful s.width s.some s.most };
-
-    fn kind_code() -> u8 {
-        Self::CODE
-    }
+    ghost lawful = { λ s. strips_lawful s.width.value s.width.some s.width.most };
 
     fn refusal(&self, piece: &Piece) -> Option<PieceRefusal> {
         if piece.finish != 0 {
             Some(PieceRefusal::Finish)
-        } else if !(1 <= piece.first && piece.first <= self.width) {
+        } else if !(1..=self.width.value).contains(&piece.first) {
             Some(PieceRefusal::First)
-        } else if !(1 <= piece.second && piece.second <= 4096) {
+        } else if !(1..=4096).contains(&piece.second) {
             Some(PieceRefusal::Second)
         } else {
             None
@@ -86,7 +77,7 @@ impl Kind for Strips {
         match self.refusal(piece) {
             None => {
                 let rank = rank_of(piece.second);
-                if 2 * piece.first <= self.width {
+                if 2 * piece.first <= self.width.value {
                     rank + 1
                 } else {
                     rank + 14
@@ -105,11 +96,11 @@ impl Kind for Strips {
     }
 
     fn unit(&self) -> u64 {
-        self.width as u64
+        self.width.value as u64
     }
 
     fn ceiling(&self) -> u64 {
-        4 * self.width as u64
+        4 * self.width.value as u64
     }
 
     fn weight(&self, piece: &Piece) -> u64 {
@@ -129,10 +120,10 @@ impl Kind for Strips {
     fn fits(&self, class: u8, count: u32, level: u32, piece: &Piece) -> bool {
         match self.refusal(piece) {
             None => {
-                if 1 <= class && class <= 13 {
-                    level as u64 + piece.first as u64 <= self.width as u64
+                if (1..=13).contains(&class) {
+                    level as u64 + piece.first as u64 <= self.width.value as u64
                 } else {
-                    14 <= class && class <= 26 && count == 0
+                    (14..=26).contains(&class) && count == 0
                 }
             }
             Some(_) => false,
@@ -140,6 +131,6 @@ impl Kind for Strips {
     }
 
     fn full(&self, class: u8, count: u32, _level: u32) -> bool {
-        14 <= class && class <= 26 && 1 <= count
+        (14..=26).contains(&class) && 1 <= count
     }
 }
