@@ -16,29 +16,25 @@ use packer::Packer;
 use packer::lines::Lines;
 use refusals::{PieceRefusal, PutRefusal};
 
-#[derive(Clone, Copy)]
-pub struct Halves {}
+#[derive(Clone, Copy, PartialEq, Eq, Debug)]
+pub struct Halves;
 
 fn is_sized(piece: &Piece) -> bool
     ensures { result ≡ sized piece.now }
 {
-    1 <= piece.first && piece.first <= 2
+    (1..=2).contains(&piece.first)
 }
 
 impl Kind for Halves {
     const CODE: u8 = 9;
 
-    ghost code = { 9 };
+    ghost CODE = { 9 };
 
     ghost meaning = { λ _. halves };
 
     ghost coded = { λ _. refl };
 
     ghost lawful = { λ k. halves_lawful };
-
-    fn kind_code() -> u8 {
-        Self::CODE
-    }
 
     fn refusal(&self, piece: &Piece) -> Option<PieceRefusal> {
         if is_sized(piece) {
@@ -104,7 +100,7 @@ pub fn two_puts(
     let mut closing_memory = [NO_CLOSING; 4];
     let mut places = Lines::new(&mut place_memory);
     let mut closings = Lines::new(&mut closing_memory);
-    let mut packer = Packer::new(Halves {});
+    let mut packer = Packer::new(Halves);
     let x = packer.put(p, &mut places, &mut closings);
     let y = packer.put(q, &mut places, &mut closings);
     let r = packer.report();
@@ -134,7 +130,7 @@ mod tests {
     // Both layers over the kind of this crate.
     #[test]
     fn over_halves(rt: HostRuntime) -> Result<(), Fail> {
-        let pile = Finishes::new(3, Allowance::new(1, Allowance::new(0, Halves {})?)?)?;
+        let pile = Finishes::new(3, Allowance::new(1, Allowance::new(0, Halves)?)?)?;
         assert_eq!(rt; pile.classes(), 3);
         assert_eq!(rt; pile.class(&piece(1, 0, 2)), 3);
         assert_eq!(rt; pile.weight(&piece(1, 0, 2)), 2);
@@ -161,7 +157,7 @@ mod tests {
                 if amount == 0 { 1_000_000 } else { 0 }
             );
         }
-        assert_eq!(rt; Allowance::new(1001, Halves {}).is_ok(), false);
+        assert_eq!(rt; Allowance::new(1001, Halves).is_ok(), false);
         Ok(())
     }
 
@@ -203,7 +199,7 @@ mod tests {
         Ok(())
     }
 
-    // No contract says what a layer's constant is, so it is tested.
+    // A layer's constant is that of the kind below.
     #[test]
     fn codes(rt: HostRuntime) {
         assert_eq!(rt; <Finishes<Allowance<Halves>> as Kind>::CODE, 9);
@@ -218,7 +214,7 @@ mod tests {
         let mut closing_memory = [NO_CLOSING; 3];
         let mut places = Lines::new(&mut place_memory);
         let mut closings = Lines::new(&mut closing_memory);
-        let mut packer = Packer::new(Halves {});
+        let mut packer = Packer::new(Halves);
         assert_eq!(rt; closings.add(NO_CLOSING), true);
         assert_eq!(rt;
             packer
@@ -257,7 +253,7 @@ mod tests {
         let mut place_memory = [NO_PLACE; 1];
         let mut closing_memory = [NO_CLOSING; 1];
         let mut none = [NO_PLACE; 0];
-        let mut packer = Packer::new(Halves {});
+        let mut packer = Packer::new(Halves);
         let mut closings = Lines::new(&mut closing_memory);
         let mut nowhere = Lines::new(&mut none);
         assert_eq!(rt;

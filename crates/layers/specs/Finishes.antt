@@ -1,5 +1,5 @@
 -- Finishes over a kind: its classes once for each finish. Assumes nothing.
-use Rattle.std.specs.Prelude.{◌≡◌, ℕ, ◌+◌, ◌-◌, ◌*◌, ◌/◌, ◌%◌, ◌<◌, min, Bool, false, cond, not, ◌&&◌, map, Some, None, Option, ◌==◌, nat_le, nat_lt}
+use Rattle.std.specs.Prelude.{◌≡◌, ℕ, ◌+◌, ◌-◌, ◌*◌, ◌/◌, ◌%◌, ◌<◌, min, Bool, false, cond, if◌then◌else◌, not, ◌&&◌, map, Some, None, Option, ◌==◌, nat_le, nat_lt}
 use Rattle.std.specs.List.{AllByRecursion}
 use Rattle.refusals.specs.declared.MakeRefusal.{MakeRefusal}
 use Rattle.refusals.specs.declared.MakeRefusal.TheVariants.{Finishes}
@@ -54,3 +54,11 @@ reckoned F m = min F (104 / m.classes)
 -- the layer of F finishes
 abbrev pub finishes : ℕ → Meaning → Meaning
 finishes F m = finishes_by (reckoned F m) m
+
+-- the piece that is passed down, where its finish is reckoned with
+abbrev pub bare_piece : ℕ → Meaning → Piece → Option Piece
+bare_piece F m p = if nat_lt p.finish (reckoned F m) then Some (plain p) else None
+
+-- the class below, of a class that there is
+abbrev pub class_below : ℕ → Meaning → ℕ → Option ℕ
+class_below F m c = if has_class (reckoned F m) m c then Some (below (reckoned F m) m c) else None

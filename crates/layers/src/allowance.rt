@@ -25,23 +25,24 @@ impl<K: Drop> Allowance<K> {
     }
 }
 
-// The piece that is passed down. The sum is made only of a measure in range, so it fits.
-pub(crate) fn widen(amount: u32, piece: &Piece) -> Piece
-    requires { amount ≤ 1000 }
-    ensures { result ≡ widened amount piece.now }
-{
-    let first = if 1 <= piece.first && piece.first <= 1_000_000 {
-        piece.first + amount
-    } else {
-        0
-    };
-    Piece { first, ..*piece }
+impl<K> Allowance<K> {
+    // The piece that is passed down. The sum is made only of a measure in range, so it fits.
+    pub(crate) fn widen(&self, piece: &Piece) -> Piece
+        ensures { result ≡ widened self.now.amount piece.now }
+    {
+        let first = if (1..=1_000_000).contains(&piece.first) {
+            piece.first + self.amount
+        } else {
+            0
+        };
+        Piece { first, ..*piece }
+    }
 }
 
 impl<K: Kind> Kind for Allowance<K> {
     const CODE: u8 = K::CODE;
 
-    ghost code = { K.code };
+    ghost CODE = { K.CODE };
 
     ghost meaning = { λ a. allowance a.amount (K.meaning a.below) };
 
@@ -49,12 +50,8 @@ impl<K: Kind> Kind for Allowance<K> {
 
     ghost lawful = { λ a. allowance_lawful a.amount _ (K.lawful a.below) };
 
-    fn kind_code() -> u8 {
-        K::kind_code()
-    }
-
     fn refusal(&self, piece: &Piece) -> Option<PieceRefusal> {
-        self.below.refusal(&widen(self.amount, piece))
+        self.below.refusal(&self.widen(piece))
     }
 
     fn classes(&self) -> u8 {
@@ -62,7 +59,7 @@ impl<K: Kind> Kind for Allowance<K> {
     }
 
     fn class(&self, piece: &Piece) -> u8 {
-        self.below.class(&widen(self.amount, piece))
+        self.below.class(&self.widen(piece))
     }
 
     fn cost(&self, class: u8) -> u64 {
@@ -82,16 +79,15 @@ impl<K: Kind> Kind for Allowance<K> {
     }
 
     fn weight(&self, piece: &Piece) -> u64 {
-        self.below.weight(&widen(self.amount, piece))
+        self.below.weight(&self.widen(piece))
     }
 
     fn load(&self, piece: &Piece) -> u32 {
-        self.below.load(&widen(self.amount, piece))
+        self.below.load(&self.widen(piece))
     }
 
     fn fits(&self, class: u8, count: u32, level: u32, piece: &Piece) -> bool {
-        self.below
-            .fits(class, count, level, &widen(self.amount, piece))
+        self.below.fits(class, count, level, &self.widen(piece))
     }
 
     fn full(&self, class: u8, count: u32, level: u32) -> bool {

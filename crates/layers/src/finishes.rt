@@ -1,6 +1,6 @@
 // Finishes: a kind's classes once for each finish, so that no container mixes two.
 ghost use Rattle.std.specs.Prelude.{◌≡◌, ◌*◌, ◌≤◌, true, Some, None, MatchResult, nat_le};
-ghost use Rattle.layers.specs.Finishes.{plain, below as below_class, has_class, reckoned, finishes, finishes_refusal};
+ghost use Rattle.layers.specs.Finishes.{reckoned, bare_piece, class_below, finishes, finishes_refusal};
 ghost use Rattle.layers.specs.FinishLaws.{finishes_lawful};
 
 use kinds::Kind;
@@ -19,10 +19,7 @@ impl<K: Kind + Drop> Finishes<K> {
     pub fn new(count: u32, below: K) -> Result<Finishes<K>, MakeRefusal>
         ensures { MatchResult result (λ l. (finishes_refusal count (K.meaning below) ≡ None) × (l.count ≡ count) × (l.below ≡ below) × (reckoned count (K.meaning below) ≡ count)) (λ e. finishes_refusal count (K.meaning below) ≡ Some e) }
     {
-        if !(1 <= count && count <= 4) {
-            return Err(MakeRefusal::Finishes);
-        }
-        if !have_room(count, &below) {
+        if !(1..=4).contains(&count) || !have_room(count, &below) {
             return Err(MakeRefusal::Finishes);
         }
         Ok(Finishes {
@@ -41,42 +38,42 @@ fn have_room<K: Kind>(count: u32, below: &K) -> bool
     count * below.classes() as u32 <= 104
 }
 
-// The piece that is passed down.
-pub(crate) fn bare(piece: &Piece) -> Piece
-    ensures { result ≡ plain piece.now }
-{
-    Piece {
-        finish: 0,
-        ..*piece
+impl<K: Kind> Finishes<K> {
+    // How many finishes are reckoned with: those that have room in 104 classes.
+    fn known(&self) -> u8
+        ensures value { result ≡ reckoned self.now.count (K.meaning self.now.below) }
+        ensures room { result * (K.meaning self.now.below).classes ≤ 104 }
+    {
+        self.count.min(104 / self.below.classes())
     }
-}
 
-// How many finishes are reckoned with: those that have room in 104 classes.
-pub(crate) fn known<K: Kind>(layer: &Finishes<K>) -> u8
-    ensures value { result ≡ reckoned layer.now.count (K.meaning layer.now.below) }
-    ensures room { result * (K.meaning layer.now.below).classes ≤ 104 }
-{
-    layer.count.min(104 / layer.below.classes())
-}
+    // The piece that is passed down, where its finish is reckoned with.
+    pub(crate) fn bare(&self, piece: &Piece) -> Option<Piece>
+        ensures { result ≡ bare_piece self.now.count (K.meaning self.now.below) piece.now }
+    {
+        let known = piece.finish < self.known();
+        known.then_some(Piece {
+            finish: 0,
+            ..*piece
+        })
+    }
 
-fn has<K: Kind>(layer: &Finishes<K>, class: u8) -> bool
-    ensures { result ≡ has_class (reckoned layer.now.count (K.meaning layer.now.below)) (K.meaning layer.now.below) class }
-{
-    1 <= class && class <= layer.classes()
-}
-
-// The class below of a class.
-fn class_below<K: Kind>(layer: &Finishes<K>, class: u8) -> u8
-    requires { 1 ≤ class }
-    ensures { result ≡ below_class (reckoned layer.now.count (K.meaning layer.now.below)) (K.meaning layer.now.below) class }
-{
-    (class - 1) % layer.below.classes() + 1
+    // The class below of a class that there is.
+    fn class_below(&self, class: u8) -> Option<u8>
+        ensures { result ≡ class_below self.now.count (K.meaning self.now.below) class }
+    {
+        if (1..=self.classes()).contains(&class) {
+            Some((class - 1) % self.below.classes() + 1)
+        } else {
+            None
+        }
+    }
 }
 
 impl<K: Kind> Kind for Finishes<K> {
     const CODE: u8 = K::CODE;
 
-    ghost code = { K.code };
+    ghost CODE = { K.CODE };
 
     ghost meaning = { λ l. finishes l.count (K.meaning l.below) };
 
@@ -84,47 +81,35 @@ impl<K: Kind> Kind for Finishes<K> {
 
     ghost lawful = { λ l. finishes_lawful l.count _ (K.lawful l.below) l.some };
 
-    fn kind_code() -> u8 {
-        K::kind_code()
-    }
-
     fn refusal(&self, piece: &Piece) -> Option<PieceRefusal> {
-        if piece.finish < known(self) {
-            self.below.refusal(&bare(piece))
-        } else {
-            Some(PieceRefusal::Finish)
+        match self.bare(piece) {
+            Some(bare) => self.below.refusal(&bare),
+            None => Some(PieceRefusal::Finish),
         }
     }
 
     fn classes(&self) -> u8 {
-        known(self) * self.below.classes()
+        self.known() * self.below.classes()
     }
 
     fn class(&self, piece: &Piece) -> u8 {
-        if piece.finish < known(self) {
-            match self.below.class(&bare(piece)) {
+        match self.bare(piece) {
+            None => 0,
+            Some(bare) => match self.below.class(&bare) {
                 0 => 0,
                 class => piece.finish * self.below.classes() + class,
-            }
-        } else {
-            0
+            },
         }
     }
 
     fn cost(&self, class: u8) -> u64 {
-        if has(self, class) {
-            self.below.cost(class_below(self, class))
-        } else {
-            0
-        }
+        self.class_below(class)
+            .map_or(0, |below| self.below.cost(below))
     }
 
     fn standing(&self, class: u8) -> u64 {
-        if has(self, class) {
-            self.below.standing(class_below(self, class))
-        } else {
-            0
-        }
+        self.class_below(class)
+            .map_or(0, |below| self.below.standing(below))
     }
 
     fn unit(&self) -> u64 {
@@ -136,30 +121,22 @@ impl<K: Kind> Kind for Finishes<K> {
     }
 
     fn weight(&self, piece: &Piece) -> u64 {
-        if piece.finish < known(self) {
-            self.below.weight(&bare(piece))
-        } else {
-            0
-        }
+        self.bare(piece).map_or(0, |bare| self.below.weight(&bare))
     }
 
     fn load(&self, piece: &Piece) -> u32 {
-        if piece.finish < known(self) {
-            self.below.load(&bare(piece))
-        } else {
-            0
-        }
+        self.bare(piece).map_or(0, |bare| self.below.load(&bare))
     }
 
     fn fits(&self, class: u8, count: u32, level: u32, piece: &Piece) -> bool {
-        has(self, class)
-            && piece.finish < known(self)
-            && self
-                .below
-                .fits(class_below(self, class), count, level, &bare(piece))
+        match (self.class_below(class), self.bare(piece)) {
+            (Some(below), Some(bare)) => self.below.fits(below, count, level, &bare),
+            _ => false,
+        }
     }
 
     fn full(&self, class: u8, count: u32, level: u32) -> bool {
-        has(self, class) && self.below.full(class_below(self, class), count, level)
+        self.class_below(class)
+            .is_some_and(|below| self.below.full(below, count, level))
     }
 }

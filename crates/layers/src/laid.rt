@@ -2,8 +2,8 @@
 ghost use Rattle.layers.specs.Laid.{allowance_layout, finishes_layout};
 ghost use Rattle.layers.specs.LaidLaws.{allowance_laid, finishes_laid};
 
-use crate::allowance::{Allowance, widen};
-use crate::finishes::{Finishes, bare, known};
+use crate::allowance::Allowance;
+use crate::finishes::Finishes;
 use kinds::Kind;
 use kinds::laid::Laid;
 use kinds::piece::Piece;
@@ -14,7 +14,7 @@ impl<L: Laid> Laid for Allowance<L> {
     ghost laid = { λ a. allowance_laid a.amount (L.laid a.below) };
 
     fn place(&self, level: u32, piece: &Piece) -> u32 {
-        self.below.place(level, &widen(self.amount, piece))
+        self.below.place(level, &self.widen(piece))
     }
 }
 
@@ -24,10 +24,7 @@ impl<L: Laid> Laid for Finishes<L> {
     ghost laid = { λ l. finishes_laid l.count (L.laid l.below) };
 
     fn place(&self, level: u32, piece: &Piece) -> u32 {
-        if piece.finish < known(self) {
-            self.below.place(level, &bare(piece))
-        } else {
-            0
-        }
+        self.bare(piece)
+            .map_or(0, |bare| self.below.place(level, &bare))
     }
 }

@@ -8,8 +8,9 @@ ghost use Rattle.ledger.specs.Rules.{nothing, new_bank};
 
 use archive::line::ClosingLine;
 
-// What stands open in one class; the count is 0 where nothing does.
-#[derive(Clone, Copy)]
+// What stands open in one class; the count is 0 where nothing does. An Option of a slot would be no
+// plainer: a fact would have to forbid Some of a slot with no pieces.
+#[derive(Clone, Copy, PartialEq, Eq, Debug, Default)]
 pub struct Slot {
     pub container: u32,
     pub count: u32,
@@ -17,15 +18,8 @@ pub struct Slot {
     pub weight: u64,
 }
 
-// Nothing stands open.
-pub const NOTHING: Slot = Slot {
-    container: 0,
-    count: 0,
-    level: 0,
-    weight: 0,
-};
-
-// At most one open container in each class, and never more than 104 classes.
+// At most one open container in each class, and never more than 104 classes. An array, since the
+// packer has no heap.
 #[derive(Drop)]
 pub struct Bank {
     pub slots: [Slot; 104],
@@ -36,7 +30,7 @@ impl Bank {
         ensures { result ≡ new_bank }
     {
         Bank {
-            slots: [NOTHING; 104],
+            slots: [Slot::default(); 104],
         }
     }
 
@@ -44,10 +38,10 @@ impl Bank {
     pub fn at(&self, class: u8) -> Slot
         ensures { result ≡ (if between 1 104 class then slice_index_or self.now.slots (class - 1) nothing else nothing) }
     {
-        if 1 <= class && class <= 104 {
+        if (1..=104).contains(&class) {
             self.slots[(class - 1) as usize]
         } else {
-            NOTHING
+            Slot::default()
         }
     }
 
@@ -55,7 +49,7 @@ impl Bank {
     pub fn replace(&mut self, class: u8, slot: Slot)
         ensures { self.new.slots ≡ (if between 1 104 class then slice_set self.old.slots (class - 1) slot else self.old.slots) }
     {
-        if 1 <= class && class <= 104 {
+        if (1..=104).contains(&class) {
             self.slots[(class - 1) as usize] = slot;
         }
     }
@@ -76,7 +70,7 @@ pub struct Ledger {
 }
 
 // The answer to an accepted put.
-#[derive(Clone, Copy)]
+#[derive(Clone, Copy, PartialEq, Eq, Debug)]
 pub struct Placing {
     pub container: u32,
     pub class: u8,
@@ -86,7 +80,8 @@ pub struct Placing {
     pub after: Option<ClosingLine>,
 }
 
-#[derive(Clone, Copy)]
+// What a season came to so far.
+#[derive(Clone, Copy, PartialEq, Eq, Debug)]
 pub struct Report {
     // pieces accepted
     pub accepted: u32,
