@@ -46,6 +46,7 @@ fn row_height_of(class: u8) -> u64
     }
 }
 
+// As in bars, two questions whose answers read alike stay apart.
 impl Kind for Strips {
     const CODE: u8 = 3;
 

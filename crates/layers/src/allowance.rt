@@ -39,6 +39,8 @@ impl<K> Allowance<K> {
     }
 }
 
+// All is asked below, of the piece passed down: the trait asks for each question by itself, and a closure that
+// names the question would be no plainer than the line it saves.
 impl<K: Kind> Kind for Allowance<K> {
     const CODE: u8 = K::CODE;
 

@@ -70,6 +70,7 @@ impl<K: Kind> Finishes<K> {
     }
 }
 
+// As in an allowance, questions whose answers read alike stay apart.
 impl<K: Kind> Kind for Finishes<K> {
     const CODE: u8 = K::CODE;
 
