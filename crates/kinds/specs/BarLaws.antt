@@ -1,10 +1,10 @@
 -- Bars are lawful. Assumes nothing.
 use Rattle.std.proofs.Common.{◌≡◌, ℕ, ◌+◌, ◌*◌, ◌/◌, ◌%◌, ◌^◌, ◌<◌, ◌≤◌, min, Bool, true, false, cond, not, ◌&&◌, eqb, ltb, leb, List, [], ◌∷◌, ◌++◌, length, Some, None, sum_by, sym, refl, ap, ◌∙◌, subst, inl, inr, mul-le-mul_right, mul-le-mul, mul-le-mul_left, mul-pos, div-mul-le_self, arith, length-append}
-use native.Mathlib.Nat.{le_of_mul-le-mul_left, lt-div-mul-add, mul-div_cancel_left}
-use Rattle.std.specs.List.{AllByRecursion}
+use Rattle.std.proofs.Math.Nat.{le_of_mul-le-mul_left, lt-div-mul-add, mul-div_cancel_left}
+use Rattle.std.specs.List.{All}
 use Rattle.std.proofs.lemmas.Nat.{le-div}
 use Rattle.std.proofs.lemmas.List.Sums.{sum_by_push}
-use Rattle.std.proofs.ByRecursion.{All-push, All-weaker}
+use Rattle.std.proofs.lemmas.List.Elements.{All-nil, All-push, All-weaker}
 use Rattle.std.proofs.lemmas.Bool.{cases_lt, cases_Bool, lt-ltb, le-ltb, cond-true, cond-false}
 use Rattle.std.proofs.lemmas.Bool.Decides.{nat_tests}
 use Rattle.kinds.specs.declared.piece.Piece.{Piece}
@@ -135,8 +135,8 @@ module _ {C k L u p : ℕ} (known : Measures C k L u p) where
   -- what a bar so built holds
   pub record Holds (c : ℕ) (ps : List Piece) : Type 0 where
     pub is_class : 0 < length ps → ClassOf M c
-    pub admitted : AllByRecursion (Admitted M) ps
-    pub one_class : AllByRecursion (λ q. M.class q ≡ c) ps
+    pub admitted : All (Admitted M) ps
+    pub one_class : All (λ q. M.class q ≡ c) ps
     pub level_is : level M ps ≡ sum_by (λ q. q.first) ps
     pub level_most : level M ps ≤ C
     pub shares : c * level M ps ≤ length ps * C
@@ -144,10 +144,10 @@ module _ {C k L u p : ℕ} (known : Measures C k L u p) where
     pub by_lengths : c ≡ k → weights M ps ≡ k * L * level M ps
 
   pub holds : {c : ℕ} {ps : List Piece} → Built M c ps → Holds c ps
-  holds none_yet = record {
+  holds {c} none_yet = record {
     is_class = λ s. absurd (omega arith);
-    admitted = tt;
-    one_class = tt;
+    admitted = All-nil (Admitted M);
+    one_class = All-nil (λ q. M.class q ≡ c);
     level_is = refl;
     level_most = omega arith;
     shares = omega arith;
@@ -248,7 +248,7 @@ module _ {C k L u p : ℕ} (known : Measures C k L u p) where
             omega (arith, y.last e, mul-le-mul_left L g, mul-le-mul_right C lcm_below)
       ]
 
-  pub bars_light : (ps : List Piece) → AllByRecursion (Admitted M) ps → sum_by (λ q. q.first) ps ≤ C → weights M ps ≤ p * C
+  pub bars_light : (ps : List Piece) → All (Admitted M) ps → sum_by (λ q. q.first) ps ≤ C → weights M ps ≤ p * C
   bars_light ps h l = light M.class M.weight (λ q. q.first) C k L u known.figs ps (All-weaker _ _ (λ q a. (bar q a).harmonic) ps h) l
 
   pub bars_by_lawful : Lawful (bars_by C k L u p)

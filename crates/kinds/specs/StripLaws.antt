@@ -1,10 +1,10 @@
 -- Strips are lawful. Assumes nothing.
 use Rattle.std.specs.Prelude.{◌≡◌, ℕ, ◌+◌, ◌-◌, ◌*◌, ◌^◌, ◌<◌, ◌≤◌, true, false, cond, not, ◌&&◌, ◌⊎◌, List, [], ◌∷◌, ◌++◌, length, Some, None, sum_by, ◌==◌, nat_eq, nat_le, refl}
 use Rattle.std.proofs.Common.{sym, ap, subst, ◌∙◌, inl, inr, mul_comm, mul_assoc, mul-le-mul, mul-le-mul_left, mul-le-mul_right, add-mul, arith, pow_mono, pow_pos}
-use Rattle.std.specs.List.{AllByRecursion}
+use Rattle.std.specs.List.{All}
 use Rattle.std.proofs.lemmas.List.{nil_from_length}
 use Rattle.std.proofs.lemmas.List.Sums.{sum_by-cons, sum_by_push}
-use Rattle.std.proofs.ByRecursion.{All-push, All-weaker}
+use Rattle.std.proofs.lemmas.List.Elements.{All-nil, All-push, All-head, All-tail}
 use Rattle.std.proofs.lemmas.Bool.Decides.{nat_tests}
 use Rattle.std.proofs.lemmas.Bool.{cases_Bool, leb-true, leb-false, eqb-true, eqb-false, le-leb, lt-leb, and_parts, true≢false, and_right, cases_lt}
 use Rattle.kinds.specs.declared.piece.Piece.{Piece}
@@ -106,8 +106,8 @@ module _ (C : ℕ) (low : 1 ≤ C) (high : C ≤ 1000000) where
         | inr k ↦ omega (arith, weights_push ps p a, quarter p.first p.second C (row_height c) (omega (arith, k.2)) (row c p a e).flat)
       ]
 
-  all_ok : {c : ℕ} {ps : List Piece} → Built (strips C) c ps → AllByRecursion (λ p. (strip_refusal C p ≡ None) × (p.second ≤ row_height c)) ps
-  all_ok none_yet = tt
+  all_ok : {c : ℕ} {ps : List Piece} → Built (strips C) c ps → All (λ p. (strip_refusal C p ≡ None) × (p.second ≤ row_height c)) ps
+  all_ok {c} none_yet = All-nil (λ p. (strip_refusal C p ≡ None) × (p.second ≤ row_height c))
   all_ok {c} (one_more {ps = ps} {p = p} b a e nf ft) = All-push (λ p. (strip_refusal C p ≡ None) × (p.second ≤ row_height c)) ps p (all_ok b) (a, (row c p a e).tall)
 
   pow_range : (k : ℕ) → k ≤ 12 → (1 ≤ 2 ^ k) × (C * 2 ^ k ≤ 2 ^ 44)
@@ -142,12 +142,12 @@ module _ (C : ℕ) (low : 1 ≤ C) (high : C ≤ 1000000) where
     elim (cases_Bool (wide c)) [ inl e ↦ let b = and_parts (nat_le 14 c) (nat_le c 26) e in absurd (h (omega (arith, leb-true 14 c b.0), leb-true c 26 b.1)) | inr e ↦ e ],
   )
 
-  all_admitted : (h : ℕ) (ps : List Piece) → AllByRecursion (λ p. (strip_refusal C p ≡ None) × (p.second ≤ h)) ps → AllByRecursion (Admitted (strips C)) ps
-  all_admitted h ps a = All-weaker _ _ (λ p k. k.0) ps a
+  all_admitted : (h : ℕ) (ps : List Piece) → All (λ p. (strip_refusal C p ≡ None) × (p.second ≤ h)) ps → All (Admitted (strips C)) ps
+  all_admitted h ps a i d s = (a i d s).0
 
-  weights_area : (ps : List Piece) → AllByRecursion (Admitted (strips C)) ps → weights (strips C) ps ≡ 4 * sum_by area ps
+  weights_area : (ps : List Piece) → All (Admitted (strips C)) ps → weights (strips C) ps ≡ 4 * sum_by area ps
   weights_area [] h = refl
-  weights_area (p ∷ ps) h = omega (arith, weights_area ps h.1, weight_is p h.0, sum_by-cons (strips C).weight p ps, sum_by-cons area p ps)
+  weights_area (p ∷ ps) h = omega (arith, weights_area ps (All-tail (Admitted (strips C)) p ps h), weight_is p (All-head (Admitted (strips C)) p ps h), sum_by-cons (strips C).weight p ps, sum_by-cons area p ps)
 
   unfit : (c : ℕ) (ps : List Piece) (p : Piece) → Built (strips C) c ps → Admitted (strips C) p → (strips C).class p ≡ c → fits_after (strips C) c ps p ≡ false → C * row_height c ≤ weights (strips C) ps
   unfit c ps p b a e f =
