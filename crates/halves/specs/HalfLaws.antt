@@ -1,8 +1,8 @@
 -- Halves are lawful. Assumes nothing.
 use Rattle.std.specs.Prelude.{◌≡◌, ℕ, ◌+◌, ◌*◌, ◌^◌, ◌<◌, ◌≤◌, Bool, true, false, cond, ◌&&◌, leb, List, [], ◌∷◌, length, Some, None, sum_by, Option, ◌==◌, nat_eq, nat_le, refl}
 use Rattle.std.proofs.Common.{sym, ap, subst, ◌∙◌, inl, inr, arith}
-use Rattle.std.specs.List.{AllByRecursion}
-use Rattle.std.proofs.ByRecursion.{All-push, All-weaker}
+use Rattle.std.specs.List.{All}
+use Rattle.std.proofs.lemmas.List.Elements.{All-nil, All-push, All-head, All-tail, All-weaker}
 use Rattle.std.proofs.lemmas.List.Sums.{sum_by-cons, sum_by_push}
 use Rattle.std.proofs.lemmas.Bool.{cases_Bool, leb-true, leb-false, lt-leb, le-leb, eq-eqb, ne_eqb, and_parts, and_right, and_left}
 use Rattle.kinds.specs.declared.piece.Piece.{Piece}
@@ -11,9 +11,6 @@ use Rattle.refusals.specs.declared.PieceRefusal.TheVariants.{First}
 use Rattle.kinds.specs.Kind.{Lawful, Admitted, ClassOf, Built, none_yet, one_more, level, weights, fits_after}
 use Rattle.halves.specs.Halving.{sized, halves}
 
-never : {A : Type 0} → ◌≡◌ {A = ℕ} 0 1 → A
-never z = absurd (omega arith)
-
 -- admission
 
 is_sized : (p : Piece) → Admitted halves p → sized p ≡ true
@@ -21,7 +18,7 @@ is_sized p = go (sized p)
   where
     go : (b : Bool) → ◌≡◌ {A = Option PieceRefusal} (cond b None (Some First)) None → b ≡ true
     go true e = refl
-    go false e = never (cc)
+    go false e = cc
 
 is_admitted : (p : Piece) → sized p ≡ true → Admitted halves p
 is_admitted p e = ap (λ b. cond b None (Some First)) e
@@ -43,23 +40,23 @@ no_one c h = ne_eqb c 1 (λ e. h (omega arith))
 
 -- what sized pieces weigh, and load
 
-weighs : (ps : List Piece) → AllByRecursion (λ p. sized p ≡ true) ps → weights halves ps ≡ sum_by (λ p. p.first) ps
+weighs : (ps : List Piece) → All (λ p. sized p ≡ true) ps → weights halves ps ≡ sum_by (λ p. p.first) ps
 weighs [] h = refl
-weighs (p ∷ ps) h = omega (arith, sum_by-cons halves.weight p ps, sum_by-cons (λ p. p.first) p ps, weighs ps h.1, measure p h.0)
+weighs (p ∷ ps) h = omega (arith, sum_by-cons halves.weight p ps, sum_by-cons (λ p. p.first) p ps, weighs ps (All-tail (λ p. sized p ≡ true) p ps h), measure p (All-head (λ p. sized p ≡ true) p ps h))
 
 -- what a container so built holds
 record Held (c : ℕ) (ps : List Piece) : Type 0 where
-  all_sized : AllByRecursion (λ p. sized p ≡ true) ps
+  all_sized : All (λ p. sized p ≡ true) ps
   at_most : level halves ps ≤ 2
   one : 0 < length ps → (c == 1) ≡ true
 
 held : {c : ℕ} {ps : List Piece} → Built halves c ps → Held c ps
-held none_yet = record { all_sized = tt; at_most = omega arith; one = λ s. absurd (omega arith) }
+held none_yet = record { all_sized = All-nil (λ p. sized p ≡ true); at_most = omega arith; one = λ s. absurd (omega arith) }
 held {c} (one_more {ps = ps} {p = p} b a k n f) =
     let s : sized p ≡ true = is_sized p a in
     let fit = and_parts (c == 1 && sized p) (nat_le (level halves ps + p.first) 2) f in
     record {
-      all_sized = All-push _ ps p (held b).all_sized s;
+      all_sized = All-push (λ p. sized p ≡ true) ps p (held b).all_sized s;
       at_most = omega (arith, sum_by_push halves.load ps p, measure p s, leb-true (level halves ps + p.first) 2 fit.1);
       one = λ h. (and_parts (c == 1) (sized p) fit.0).0;
     }
@@ -100,7 +97,7 @@ halves_lawful = record {
       ((h.all_sized, rw (h.one some) (omega (arith, h.at_most, weighs ps h.all_sized))), omega (arith, h.at_most));
   full_weighs_enough = λ c ps b f. heavy c ps (omega (arith, leb-true 2 (level halves ps) (and_parts (c == 1) _ f).1));
   unfit_weighs_enough = λ c ps p b a k f. heavy c ps (unfit c ps p a k f);
-  allowed_admitted = λ ps h low a. All-weaker _ _ is_admitted ps a.0;
+  allowed_admitted = λ ps h low a. All-weaker (λ p. sized p ≡ true) (Admitted halves) is_admitted ps a.0;
   allowed_weighs_at_most = λ ps h low a. omega (arith, a.1, weighs ps a.0);
-  full_after_first = λ p a z. never (sym z ∙ rw (is_sized p a) refl);
+  full_after_first = λ p a z. let s = is_sized p a in absurd (omega (arith, rw s at z));
 }

@@ -1,9 +1,10 @@
 -- Every season over a lawful kind keeps its promise. Assumes nothing.
 use Rattle.std.proofs.Common.{◌≡◌, ℕ, suc, ◌+◌, ◌-◌, ◌*◌, ◌<◌, ◌≤◌, Bool, true, false, cond, ◌&&◌, ◌||◌, eqb, ltb, leb, ◌⊎◌, List, [], ◌∷◌, ◌++◌, Some, None, Ok, Err, sum_by, Option, Result, sym, refl, ap, ◌∙◌, subst, inl, inr, mul-le-mul_left, mul-zero, mul-add, add-one, arith}
-use Rattle.std.specs.List.{flat_map, AllByRecursion}
+use Rattle.std.specs.List.{flat_map, All}
 use Rattle.std.specs.List.Sorted.{IsPermutation}
 use Rattle.std.proofs.lemmas.List.{flat_map_more, append-nil, get_or-replicate, length_push}
-use Rattle.std.proofs.ByRecursion.{All-weaker, All-map}
+use Rattle.std.proofs.lemmas.List.Elements.{All-nil, All-head, All-tail, All-weaker, All-map}
+use Rattle.std.proofs.lemmas.List.Folds.{fold-map, flat_map-map}
 use Rattle.std.proofs.lemmas.List.Sums.{sum_by_push, sum_by-append, sum_by-cons}
 use Rattle.std.proofs.lemmas.List.Sorted.{sum_by-IsPermutation}
 use Rattle.std.proofs.lemmas.Bool.{cases_Bool, leb-false, le-leb, true≢false, and_parts, and_right}
@@ -19,8 +20,8 @@ use Rattle.ledger.specs.Rules.{upto, floor_of, open_in, stands, nothing, new_led
 use Rattle.ledger.specs.Season.{Container, AllowedContainer, AllowedPacking, cost_of, standing_cost, Placed, placed_by, placed, pieces_of, pieces_in, class_in, numbers, container_in, grouped, Season}
 use Rattle.ledger.specs.Season.{CapIdle}
 use Rattle.ledger.proofs.Floors.{floor_covers, floor_least}
-use Rattle.ledger.proofs.Uptos.{all_upto, sum_same, sum_le, sum_past, sum_over_map, joined_over_map}
-use Rattle.ledger.proofs.Groups.{push, class_push_found, class_push_new, pieces_none, numbers_push_new, numbers_push_found, regrouped}
+use Rattle.ledger.proofs.Uptos.{all_upto, sum_same, sum_le, sum_past}
+use Rattle.ledger.proofs.Groups.{push, Elsewhere, Numbered, class_push_found, class_push_new, pieces_none, numbers_push_new, numbers_push_found, regrouped}
 use Rattle.ledger.proofs.Sound.{open_weight, open_cost_in, Tells, Open, Group, Sound, placed_in, Ready}
 use Rattle.ledger.proofs.Step.{stepped}
 
@@ -65,10 +66,10 @@ module _ (m : Meaning) (law : Lawful m) (qs : List Placed) (s : Ledger) (sound :
         ratio = rw up (going_sum _ _ (found m s p).weight _ _ (m.unit * m.cost (m.class p)) sound.ratio);
       }
 
-  not_yet : AllByRecursion (λ q. q.container ≡ s.opened + 1 → ⊥) qs
-  not_yet = All-weaker (λ q. (1 ≤ q.container) × (q.container ≤ s.opened)) _ (λ q h e. omega (arith, h.1, e)) qs sound.within
+  not_yet : All (Elsewhere (s.opened + 1)) qs
+  not_yet = All-weaker (Numbered s.opened) (Elsewhere (s.opened + 1)) (λ q h e. omega (arith, h.1, e)) qs sound.within
 
-  none_in : pieces_in (s.opened + 1) qs ≡ []
+  pub none_in : pieces_in (s.opened + 1) qs ≡ []
   none_in = pieces_none (s.opened + 1) qs not_yet
 
   class_then : class_in (s.opened + 1) (push qs (placed_in m p (fresh s))) ≡ m.class p
@@ -171,9 +172,9 @@ new_down c h = get_or-replicate 104 (c - 1) nothing nothing (omega arith)
 new_sound : (m : Meaning) → Sound m [] new_ledger
 new_sound m = record {
   bank = refl;
-  within = tt;
+  within = All-nil (Numbered 0);
   in_turn = refl;
-  classes = tt;
+  classes = All-nil (λ q. q.class ≡ class_in q.container []);
   weight = refl;
   used = refl;
   groups = λ n a b. absurd (omega arith);
@@ -200,24 +201,25 @@ module _ (m : Meaning) (law : Lawful m) (h : List Call) (s : Ledger) (sound : So
   packed : AllowedPacking m (pieces_of (placed h)) (grouped m (placed h))
   packed = record {
     each_allowed = All-map (AllowedContainer m) (container_in m (placed h)) (numbers (placed h))
-        (subst (AllByRecursion (λ n. AllowedContainer m (container_in m (placed h) n))) (sym sound.in_turn)
-        (all_upto _ s.opened (λ n a b. let g : Group m (placed h) n = sound.groups n a b in (g.costs, g.allowed))));
+        (subst (All (λ n. AllowedContainer m (container_in m (placed h) n))) (sym sound.in_turn)
+        (all_upto (λ n. AllowedContainer m (container_in m (placed h) n)) s.opened (λ n a b. let g : Group m (placed h) n = sound.groups n a b in (g.costs, g.allowed))));
     same_pieces = subst (λ l. IsPermutation l (pieces_of (placed h)))
-        (sym (joined_over_map (λ k. k.pieces) (container_in m (placed h)) (numbers (placed h)) ∙ ap (flat_map (λ k. pieces_in k (placed h))) sound.in_turn))
+        (sym (flat_map-map (λ k. k.pieces) (container_in m (placed h)) (numbers (placed h)) ∙ ap (flat_map (λ k. pieces_in k (placed h))) sound.in_turn))
         (regrouped s.opened (placed h) sound.within);
   }
 
   cost_used : cost_of (grouped m (placed h)) ≡ s.used
   cost_used =
-      sum_over_map (λ k. k.cost) (container_in m (placed h)) (numbers (placed h))
+      fold-map (λ n k. n + k.cost) (container_in m (placed h)) 0 (numbers (placed h))
       ∙ ap (sum_by (λ k. m.cost (class_in k (placed h)))) sound.in_turn
       ∙ sound.used
 
-packing_light : (m : Meaning) → Lawful m → (ks : List Container) → AllByRecursion (AllowedContainer m) ks → weights m (flat_map (λ k. k.pieces) ks) ≤ m.ceiling * cost_of ks
+packing_light : (m : Meaning) → Lawful m → (ks : List Container) → All (AllowedContainer m) ks → weights m (flat_map (λ k. k.pieces) ks) ≤ m.ceiling * cost_of ks
 packing_light m law [] h = omega arith
 packing_light m law (k ∷ ks) h =
-    let here : weights m k.pieces ≤ m.ceiling * k.cost = law.allowed_weighs_at_most k.pieces k.cost h.0.0 h.0.1 in
-    let rest : weights m (flat_map (λ k. k.pieces) ks) ≤ m.ceiling * cost_of ks = packing_light m law ks h.1 in
+    let first = All-head (AllowedContainer m) k ks h in
+    let here : weights m k.pieces ≤ m.ceiling * k.cost = law.allowed_weighs_at_most k.pieces k.cost first.0 first.1 in
+    let rest : weights m (flat_map (λ k. k.pieces) ks) ≤ m.ceiling * cost_of ks = packing_light m law ks (All-tail (AllowedContainer m) k ks h) in
     omega (arith, sum_by-append m.weight k.pieces (flat_map (λ k. k.pieces) ks), ap (λ n. m.ceiling * n) (sum_by-cons (λ k. k.cost) k ks), mul-add m.ceiling k.cost (cost_of ks))
 
 module _ (m : Meaning) (law : Lawful m) (h : List Call) (s : Ledger) (sound : Sound m (placed h) s) where
