@@ -1,36 +1,33 @@
 -- Halves are lawful. Assumes nothing.
-use Rattle.std.specs.Prelude.{◌≡◌, ℕ, ◌+◌, ◌*◌, ◌^◌, ◌<◌, ◌≤◌, Bool, true, false, cond, ◌&&◌, leb, List, [], ◌∷◌, length, Some, None, sum_by, Option, ◌==◌, nat_eq, nat_le, refl}
-use Rattle.std.proofs.Common.{sym, ap, subst, ◌∙◌, inl, inr, arith}
+use Rattle.std.specs.Prelude.{◌≡◌, ℕ, ◌+◌, ◌*◌, ◌^◌, ◌<◌, ◌≤◌, true, false, cond, ◌&&◌, leb, List, [], ◌∷◌, length, Some, None, sum_by, ◌==◌, nat_eq, nat_le, refl}
+use Rattle.std.proofs.Common.{sym, ap, subst, ◌∙◌, inr, arith}
 use Rattle.std.specs.List.{All}
 use Rattle.std.proofs.lemmas.List.Elements.{All-nil, All-push, All-head, All-tail, All-weaker}
 use Rattle.std.proofs.lemmas.List.Sums.{sum_by-cons, sum_by_push}
-use Rattle.std.proofs.lemmas.Bool.{cases_Bool, leb-true, leb-false, lt-leb, le-leb, eq-eqb, ne_eqb, and_parts, and_right, and_left}
+use Rattle.std.proofs.lemmas.Bool.{false_from_ne_true, cond-true, leb-true, leb-false, le-leb, eq-eqb, ne_eqb, and_parts, and_right, and_left}
+use Rattle.std.proofs.lemmas.Bool.Decides.{nat_tests}
 use Rattle.kinds.specs.declared.piece.Piece.{Piece}
-use Rattle.refusals.specs.declared.PieceRefusal.{PieceRefusal}
 use Rattle.refusals.specs.declared.PieceRefusal.TheVariants.{First}
 use Rattle.kinds.specs.Kind.{Lawful, Admitted, ClassOf, Built, none_yet, one_more, level, weights, fits_after}
+use Rattle.kinds.specs.Told.{in_between, above}
 use Rattle.halves.specs.Halving.{sized, halves}
 
 -- admission
 
 is_sized : (p : Piece) → Admitted halves p → sized p ≡ true
-is_sized p = go (sized p)
-  where
-    go : (b : Bool) → ◌≡◌ {A = Option PieceRefusal} (cond b None (Some First)) None → b ≡ true
-    go true e = refl
-    go false e = cc
+is_sized p a = grind (arith, nat_tests)
 
 is_admitted : (p : Piece) → sized p ≡ true → Admitted halves p
-is_admitted p e = ap (λ b. cond b None (Some First)) e
+is_admitted p e = cond-true (sized p) None (Some First) e
 
 not_sized : (p : Piece) → (Admitted halves p → ⊥) → sized p ≡ false
-not_sized p refused = elim (cases_Bool (sized p)) [ inl e ↦ absurd (refused (is_admitted p e)) | inr e ↦ e ]
+not_sized p refused = false_from_ne_true (sized p) (λ e. refused (is_admitted p e))
 
 range : (p : Piece) → sized p ≡ true → (1 ≤ p.first) × (p.first ≤ 2)
-range p e = let b = and_parts (nat_le 1 p.first) (nat_le p.first 2) e in (leb-true 1 p.first b.0, leb-true p.first 2 b.1)
+range p e = in_between 1 2 p.first e
 
 measure : (p : Piece) → sized p ≡ true → cond (sized p) p.first 0 ≡ p.first
-measure p e = ap (λ b. cond b p.first 0) e
+measure p e = cond-true (sized p) p.first 0 e
 
 class_one : (c : ℕ) → ClassOf halves c → (c == 1) ≡ true
 class_one c k = eq-eqb c 1 (omega (arith, k))
@@ -61,12 +58,8 @@ held {c} (one_more {ps = ps} {p = p} b a k n f) =
       one = λ h. (and_parts (c == 1) (sized p) fit.0).0;
     }
 
-cost_most : (b : Bool) → cond b 1 0 ≤ 1
-cost_most true = omega arith
-cost_most false = omega arith
-
 heavy : (c : ℕ) (ps : List Piece) → 1 ≤ level halves ps → 1 * cond (c == 1) 1 0 ≤ weights halves ps
-heavy c ps l = omega (arith, cost_most (c == 1), l)
+heavy c ps l = grind (arith, nat_tests)
 
 unfit : (c : ℕ) (ps : List Piece) (p : Piece) → Admitted halves p → halves.class p ≡ c → fits_after halves c ps p ≡ false → 1 ≤ level halves ps
 unfit c ps p a k f =
@@ -83,7 +76,7 @@ halves_lawful = record {
   refused_tells_nothing = λ p h. let e = not_sized p h in (rw e, rw e, rw e, λ c n l. and_left _ _ (and_right (c == 1) (sized p) e));
   no_class_tells_nothing = λ c h. let e = no_one c h in (rw e, rw e, (λ n l. and_left _ _ e), λ n l p. and_left _ _ (and_left _ _ e));
   first_zero_refused = λ p z a. omega (arith, range p (is_sized p a));
-  first_over_refused_as_zero = λ p h. ap (λ b. cond b None (Some First)) (and_right (nat_le 1 p.first) _ (lt-leb p.first 2 (omega arith)));
+  first_over_refused_as_zero = λ p h. ap (λ b. cond b None (Some First)) (above 1 2 p.first (omega arith));
   weight_range = λ p a. subst (λ n. (1 ≤ n) × (n ≤ 2 ^ 44)) (sym (measure p (is_sized p a))) (omega (arith, range p (is_sized p a)));
   load_range = λ p a. subst (λ n. (1 ≤ n) × (n ≤ 1000000)) (sym (measure p (is_sized p a))) (omega (arith, range p (is_sized p a)));
   unit_some = omega arith;

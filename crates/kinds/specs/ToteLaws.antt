@@ -7,10 +7,10 @@ use Rattle.std.proofs.lemmas.List.Sums.{sum_by-cons}
 use Rattle.std.proofs.lemmas.Bool.{cases_lt, lt-ltb, le-ltb, cond-true, cond-false}
 use Rattle.std.proofs.lemmas.Bool.Decides.{nat_tests}
 use Rattle.kinds.specs.declared.piece.Piece.{Piece}
-use Rattle.kinds.specs.Kind.{Meaning, Lawful, Admitted, ClassOf, Built, one_more, none_yet, level, weights, full_with, fits_after, told, between}
+use Rattle.kinds.specs.Kind.{Meaning, Lawful, Admitted, ClassOf, Built, one_more, none_yet, level, weights, full_with, fits_after, between}
 use Rattle.kinds.specs.Bars.{bars_by}
 use Rattle.kinds.specs.Totes.{totes_by, totes}
-use Rattle.kinds.specs.Told.{told_no, told_same}
+use Rattle.kinds.specs.Told.{told_yes, told_no, told_same}
 use Rattle.kinds.specs.BarLaws.{bar_fit, Measures, Bar, bar, fit_is, Holds, holds, out_class, cost_one, standing_none, count_heavy, level_heavy, lcm_below, unit_some, unit_most, weight_some, weight_most, bars_light, bars_by_lawful, measures}
 
 -- Tests, at count n and with a piece that brings the level to x
@@ -61,12 +61,12 @@ module _ {C k L u p K : ℕ} (known : Measures C k L u p) (room : k ≤ K) (few 
   is_bar q a = bar known q a
 
   fit_tote : (c n l : ℕ) (q : Piece) → Admitted T q → T.fits c n l q ≡ tote_fit C k K c n (l + q.first)
-  fit_tote c n l q a = ap (λ r. told r (tote_fit C k K c n (l + q.first)) false) a
+  fit_tote c n l q a = told_yes _ _ _ a
 
   -- a tote's weights by a bar's
 
   weight_is : (q : Piece) → Admitted T q → T.weight q ≡ cond (ltb (B.class q) k) (u * C * K / B.class q) (k * L * q.first * K + u * C)
-  weight_is q a = ap (λ r. told r (cond (ltb (B.class q) k) (u * C * K / B.class q) (k * L * q.first * K + u * C)) 0) a
+  weight_is q a = told_yes _ _ _ a
 
   weight_below : (q : Piece) → Admitted T q → B.class q < k → T.weight q ≡ K * B.weight q
   weight_below q a l =

@@ -1,15 +1,16 @@
 -- Finishes over a lawful kind are lawful. Assumes nothing.
-use Rattle.std.specs.Prelude.{◌≡◌, ℕ, ◌+◌, ◌-◌, ◌*◌, ◌/◌, ◌%◌, ◌<◌, ◌≤◌, Bool, true, false, cond, ◌&&◌, ltb, List, [], ◌∷◌, map, length, get_or, Some, None, sum_by, ◌≢◌, nat_le, nat_lt, refl}
+use Rattle.std.specs.Prelude.{◌≡◌, ℕ, ◌+◌, ◌-◌, ◌*◌, ◌/◌, ◌%◌, ◌<◌, ◌≤◌, Bool, true, false, cond, ◌&&◌, ltb, List, [], ◌∷◌, map, length, get_or, Some, None, sum_by, ◌≢◌, nat_lt, refl}
 use Rattle.std.proofs.Common.{sym, ap, subst, ◌∙◌, inl, inr, div-lt_iff_lt-mul, mod-lt, mul-le-mul_right, one-mul, div-mul-le_self, arith}
 use Rattle.std.specs.List.{All}
 use Rattle.std.proofs.lemmas.Nat.{le-div, div-mul-add, mod-mul-add, row_fits}
 use Rattle.std.proofs.lemmas.List.{map_push, length-map}
 use Rattle.std.proofs.lemmas.List.Sums.{sum_by-cons}
 use Rattle.std.proofs.lemmas.List.Elements.{All-nil, All-cons, All-head, All-tail, All-push}
-use Rattle.std.proofs.lemmas.Bool.{lt-ltb, ltb-true, le-leb, leb-true, ne_eqb, and_parts, and_from, and_right, cases_Bool, true≢false}
+use Rattle.std.proofs.lemmas.Bool.{true_from_ne_false, cond-true, cond-false, lt-ltb, ltb-true, ne_eqb, and_right, cases_Bool, true≢false}
 use Rattle.kinds.specs.declared.piece.Piece.{Piece}
 use Rattle.refusals.specs.declared.PieceRefusal.TheVariants.{Finish}
-use Rattle.kinds.specs.Kind.{Meaning, Lawful, Admitted, ClassOf, Built, one_more, none_yet, level, full_with, fits_after}
+use Rattle.kinds.specs.Kind.{Meaning, Lawful, Admitted, ClassOf, Built, one_more, none_yet, full_with, fits_after}
+use Rattle.kinds.specs.Told.{is_between, in_between, not_between}
 use Rattle.layers.specs.Mapped.{all_unmap}
 use Rattle.layers.specs.Finishes.{plain, below, has_class, finishes_by, reckoned, finishes}
 
@@ -42,7 +43,7 @@ module _ (F : ℕ) (m : Meaning) (law : Lawful m) where
   all_down f l ps h a i d s =
       let p : Piece = get_or ps i d in
       let e : ltb p.finish F ≡ true = lt-ltb p.finish F (omega (arith, h i d s)) in
-      ap (λ b. cond b (m.refusal (plain p)) (Some Finish)) e ∙ all_unmap (Admitted m) plain ps a i d s
+      cond-true _ _ _ e ∙ all_unmap (Admitted m) plain ps a i d s
 
   -- an admitted piece, of class c
   record Down (c : ℕ) (p : Piece) : Type 0 where
@@ -53,14 +54,10 @@ module _ (F : ℕ) (m : Meaning) (law : Lawful m) where
     has : has_class F m c ≡ true
 
   low_finish : (p : Piece) → Admitted (finishes_by F m) p → nat_lt p.finish F ≡ true
-  low_finish p a =
-      elim (cases_Bool (nat_lt p.finish F)) [
-        | inl e ↦ e
-        | inr e ↦ absurd (none_is_some Finish (sym a ∙ ap (λ b. cond b (m.refusal (plain p)) (Some Finish)) e))
-      ]
+  low_finish p a = true_from_ne_false (nat_lt p.finish F) (λ e. none_is_some Finish (sym a ∙ cond-false _ _ _ e))
 
   below_admitted : (p : Piece) → Admitted (finishes_by F m) p → Admitted m (plain p)
-  below_admitted p a = sym (ap (λ b. cond b (m.refusal (plain p)) (Some Finish)) (low_finish p a)) ∙ a
+  below_admitted p a = sym (cond-true _ _ _ (low_finish p a)) ∙ a
 
   class_is : (p : Piece) → Admitted (finishes_by F m) p → (finishes_by F m).class p ≡ p.finish * m.classes + m.class (plain p)
   class_is p a =
@@ -74,10 +71,10 @@ module _ (F : ℕ) (m : Meaning) (law : Lawful m) where
       subst (ClassOf (finishes_by F m)) (sym (class_is p a)) (omega (arith, k.0), w)
 
   has_from : (c : ℕ) → ClassOf (finishes_by F m) c → has_class F m c ≡ true
-  has_from c k = and_from _ _ (le-leb 1 c k.0) (le-leb c (F * m.classes) k.1)
+  has_from c k = is_between 1 (F * m.classes) c k.0 k.1
 
   from_has : (c : ℕ) → has_class F m c ≡ true → ClassOf (finishes_by F m) c
-  from_has c e = let b = and_parts (nat_le 1 c) (nat_le c (F * m.classes)) e in (leb-true 1 c b.0, leb-true c (F * m.classes) b.1)
+  from_has c e = in_between 1 (F * m.classes) c e
 
   below_class : (c : ℕ) → ClassOf m (below F m c)
   below_class c = (omega arith, omega (arith, mod-lt (c - 1) {m = m.classes} law.some_class))
@@ -148,17 +145,13 @@ module _ (F : ℕ) (m : Meaning) (law : Lawful m) where
   not_admitted_down p h =
       elim (cases_Bool (nat_lt p.finish F)) [
         | inl e ↦
-            let n = law.refused_tells_nothing (plain p) (λ a. h (ap (λ b. cond b (m.refusal (plain p)) (Some Finish)) e ∙ a)) in
+            let n = law.refused_tells_nothing (plain p) (λ a. h (cond-true _ _ _ e ∙ a)) in
             (rw (e, n.0), rw (e, n.1), rw (e, n.2), λ c k l. ap (λ b. cond (has_class F m c && nat_lt p.finish F) b false) (n.3 (below F m c) k l) ∙ same_both (has_class F m c && nat_lt p.finish F))
         | inr e ↦ (rw e, rw e, rw e, λ c k l. ap (λ b. cond b (m.fits (below F m c) k l (plain p)) false) (and_right (has_class F m c) (nat_lt p.finish F) e))
       ]
 
   no_class_down : (c : ℕ) → (ClassOf (finishes_by F m) c → ⊥) → ((finishes_by F m).cost c ≡ 0) × ((finishes_by F m).standing c ≡ 0) × ((n l : ℕ) → (finishes_by F m).full c n l ≡ false) × ((n l : ℕ) (p : Piece) → (finishes_by F m).fits c n l p ≡ false)
-  no_class_down c h =
-      elim (cases_Bool (has_class F m c)) [
-        | inl e ↦ absurd (h (from_has c e))
-        | inr e ↦ (rw e, rw e, λ n l. rw e, λ n l p. rw e)
-      ]
+  no_class_down c h = let e = not_between 1 (F * m.classes) c h in (rw e, rw e, λ n l. rw e, λ n l p. rw e)
 
   pub finishes_by_lawful : 1 ≤ F → F * m.classes ≤ 104 → Lawful (finishes_by F m)
   finishes_by_lawful some few = record {
@@ -190,7 +183,7 @@ module _ (F : ℕ) (m : Meaning) (law : Lawful m) where
           let r : Passed c ps = built_down b in
           let k = law.full_weighs_enough (below F m c) (map plain ps) r.built (sym (full_down c ps e r.low) ∙ f) in
           omega (arith, k, sum_down m.weight ps r.low, ap (λ n. m.unit * n) (cost_down c e))
-      | inr e ↦ absurd (true≢false (sym f ∙ ap (λ b. cond b (m.full (below F m c) (length ps) (level (finishes_by F m) ps)) false) e))
+      | inr e ↦ absurd (true≢false (sym f ∙ cond-false _ _ _ e))
     ];
     unfit_weighs_enough = λ c ps p b a i f.
         let r : Passed c ps = built_down b in
