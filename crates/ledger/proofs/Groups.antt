@@ -1,14 +1,14 @@
 -- One more placed piece, and the groups by container number. Assumes nothing.
-use Rattle.std.proofs.Common.{◌≡◌, ℕ, ◌<◌, ◌≤◌, Bool, cond, not, eqb, ◌⊎◌, List, [], ◌∷◌, ◌++◌, length, filter, sym, refl, ap, ◌∙◌, subst, inl, inr, arith}
+use Rattle.std.proofs.Common.{◌≡◌, ℕ, ◌<◌, ◌≤◌, Bool, not, eqb, ◌⊎◌, List, [], ◌∷◌, ◌++◌, length, filter, sym, refl, ap, ◌∙◌, subst, inl, inr, arith}
 use Rattle.std.specs.List.{flat_map, All}
 use Rattle.std.specs.List.Sorted.{IsPermutation}
-use Rattle.std.proofs.lemmas.List.{map-append, append-nil}
+use Rattle.std.proofs.lemmas.List.{flat_map_more, map-append, append-nil}
 use Rattle.std.proofs.lemmas.List.Elements.{filter-append, All-nil, All-cons, All-head, All-tail}
 use Rattle.std.proofs.lemmas.List.Recursion.{found_push_other}
 use Rattle.std.proofs.lemmas.List.Sorted.{IsPermutation-refl, IsPermutation-trans, IsPermutation-cons}
 use Rattle.std.proofs.lemmas.Bool.{cases_Bool, eq-eqb, ne_eqb, eqb-true, eqb-false}
-use Rattle.ledger.specs.Rules.{upto}
-use Rattle.ledger.specs.Season.{Placed, pieces_of, pieces_in, class_in, numbers}
+use Rattle.ledger.specs.Rules.{Call, upto}
+use Rattle.ledger.specs.Season.{Placed, placed_by, placed, pieces_of, pieces_in, class_in, numbers}
 use Rattle.ledger.proofs.Uptos.{joined_none, joined_change}
 
 abbrev pub push : List Placed → Placed → List Placed
@@ -21,6 +21,13 @@ Elsewhere n q = q.container ≡ n → ⊥
 -- in one of the containers 1 to top
 abbrev pub Numbered : ℕ → Placed → Type 0
 Numbered top q = (1 ≤ q.container) × (q.container ≤ top)
+
+-- one more call, and one that places nothing
+pub placed_then : (h : List Call) (c : Call) → placed (h ++ (c ∷ [])) ≡ placed h ++ placed_by c
+placed_then h c = sym (flat_map_more placed_by [] h c)
+
+pub placed_same : (h : List Call) (c : Call) → placed_by c ≡ [] → placed (h ++ (c ∷ [])) ≡ placed h
+placed_same h c e = rw (placed_then h c, e) (append-nil (placed h))
 
 pieces_cons_same : (n : ℕ) (q : Placed) (qs : List Placed) → q.container ≡ n → pieces_in n (q ∷ qs) ≡ q.piece ∷ pieces_in n qs
 pieces_cons_same n q qs e = rw (eq-eqb q.container n e)
@@ -75,14 +82,11 @@ but c ns = filter (λ n. not (eqb n c)) ns
 
 but_last_same : (c : ℕ) (ns : List ℕ) → but c (ns ++ (c ∷ [])) ≡ but c ns
 but_last_same c ns =
-    filter-append (λ n. not (eqb n c)) ns (c ∷ [])
-    ∙ ap (λ b. but c ns ++ cond (not b) (c ∷ []) []) (eq-eqb c c refl)
-    ∙ append-nil (but c ns)
+    rw (filter-append (λ n. not (eqb n c)) ns (c ∷ []), eq-eqb c c refl) (append-nil (but c ns))
 
 but_last_other : (c n : ℕ) (ns : List ℕ) → (n ≡ c → ⊥) → but c (ns ++ (n ∷ [])) ≡ but c ns ++ (n ∷ [])
 but_last_other c n ns ne =
-    filter-append (λ k. not (eqb k c)) ns (n ∷ [])
-    ∙ ap (λ b. but c ns ++ cond (not b) (n ∷ []) []) (ne_eqb n c ne)
+    rw (filter-append (λ k. not (eqb k c)) ns (n ∷ []), ne_eqb n c ne)
 
 pub numbers_push_new : (qs : List Placed) (q : Placed) → All (Elsewhere q.container) qs → numbers (push qs q) ≡ numbers qs ++ (q.container ∷ [])
 numbers_push_new [] q h = refl

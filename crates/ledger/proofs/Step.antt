@@ -11,6 +11,7 @@ use Rattle.ledger.specs.declared.Ledger.{Ledger}
 use Rattle.kinds.specs.Kind.{Meaning, Lawful, Admitted, Built, one_more, weights, full_with}
 use Rattle.ledger.specs.Rules.{upto, open_in, stands, nothing}
 use Rattle.ledger.specs.Season.{Placed, pieces_of, pieces_in, class_in}
+use Rattle.ledger.proofs.Bounds.{class_range}
 use Rattle.ledger.proofs.Uptos.{sum_change}
 use Rattle.ledger.proofs.Groups.{push, Numbered, pieces_push_same, pieces_push_other, class_push_found, class_push_other}
 use Rattle.ledger.proofs.Sound.{open_weight, open_cost_in, Tells, Open, Group, Sound, placed_in, Ready}
@@ -38,7 +39,7 @@ step_sum U ΣW T X S ΣX C W ΣW' ΣX' w Y Z a b c d = omega arith
 
 module _ (m : Meaning) (law : Lawful m) (qs : List Placed) (s : Ledger) (sound : Sound m qs s) (p : Piece) (admitted : Admitted m p) (t : Slot) (top used : ℕ) (ready : Ready m qs s p t top used) where
   is_class : (1 ≤ m.class p) × (m.class p ≤ 104)
-  is_class = omega (arith, law.admitted_has_class p admitted, law.few_classes)
+  is_class = class_range m law p admitted
 
   slot_same : (x : Slot) → open_in (after_by m s p x top used) (m.class p) ≡ x
   slot_same x = get_or-set_same s.bank.slots (m.class p - 1) x nothing (omega (arith, is_class, sound.bank))

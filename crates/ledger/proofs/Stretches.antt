@@ -15,19 +15,17 @@ use Rattle.ledger.specs.declared.Ledger.{Ledger}
 use Rattle.ledger.specs.Rules.{Call, a_put, a_report, Ran, then_put, stands, found, fits_found, goes_on, taking, put_answer, put_ledger}
 use Rattle.ledger.specs.Season.{Placed, placed_by, placed, pieces_in}
 use Rattle.ledger.specs.Places.{place_in, Noted, silent, telling, call_of, calls, level_in, AtLevels, none_told, then_silent, then_told, RanLaid, Stretch, covered, stretch_of, stretches, Apart, AllApart, LaidSeason}
-use Rattle.ledger.proofs.Groups.{pieces_push_same, pieces_push_other}
+use Rattle.ledger.proofs.Bounds.{class_range}
+use Rattle.ledger.proofs.Groups.{placed_then, placed_same, pieces_push_same, pieces_push_other}
 use Rattle.ledger.proofs.Sound.{Sound}
 use Rattle.ledger.proofs.Seasons.{none_in, Answered, answered, ran_sound}
 
 -- Levels along the calls
 
-placed_then : (h : List Call) (c : Call) → placed (h ++ (c ∷ [])) ≡ placed h ++ placed_by c
-placed_then h c = sym (flat_map_more placed_by [] h c)
-
 module _ (m : Meaning) (k : ℕ) (h : List Call) where
   -- a call that places nothing
   level_same : (c : Call) → placed_by c ≡ [] → level_in m k (h ++ (c ∷ [])) ≡ level_in m k h
-  level_same c e = ap (λ l. level m (pieces_in k l)) (placed_then h c ∙ ap (λ l. placed h ++ l) e ∙ append-nil (placed h))
+  level_same c e = ap (λ l. level m (pieces_in k l)) (placed_same h c e)
 
   -- a piece in container k, and one in another
   level_more : (p : Piece) (a : Placing) → a.container ≡ k → level_in m k (h ++ (a_put p (Ok a) ∷ [])) ≡ level_in m k h + m.load p
@@ -106,9 +104,9 @@ then_call m n c s ran at = (subst (λ h. Ran m h s) (sym (calls_then n (silent c
 module _ (m : Meaning) (law : Lawful m) (qs : List Placed) (s : Ledger) (sound : Sound m qs s) (p : Piece) (admitted : Admitted m p) where
   taking_at_level : (taking m s p).level ≡ level m (pieces_in (taking m s p).container qs)
   taking_at_level =
-      let range = law.admitted_has_class p admitted in
+      let range = class_range m law p admitted in
       cond_both (goes_on m s p) (found m s p) _ (λ (t : Slot). t.level ≡ level m (pieces_in t.container qs))
-      (λ e. (sound.opens (m.class p) range.0 (omega (arith, range.1, law.few_classes)) (and_parts (stands (found m s p)) (fits_found m s p) e).0).tells.level)
+      (λ e. (sound.opens (m.class p) range.0 range.1 (and_parts (stands (found m s p)) (fits_found m s p) e).0).tells.level)
       (λ e. sym (ap (level m) (none_in m law qs s sound p admitted)))
 
 -- by which the place that a put tells is the level of its container, as the calls before filled it

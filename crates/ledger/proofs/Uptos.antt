@@ -1,5 +1,5 @@
 -- Sums and lists over 1, 2, .. n, and what one change among them makes. Assumes nothing.
-use Rattle.std.proofs.Common.{◌≡◌, ℕ, zero, suc, ◌+◌, ◌<◌, ◌≤◌, List, [], ◌∷◌, ◌++◌, sum_by, sym, refl, ap, ◌∙◌, subst, inl, inr, arith}
+use Rattle.std.proofs.Common.{◌≡◌, ℕ, zero, suc, ◌+◌, ◌<◌, ◌≤◌, List, [], ◌∷◌, ◌++◌, sum_by, sym, refl, ap, ◌∙◌, inl, inr, arith}
 use Rattle.std.specs.List.{flat_map, All}
 use Rattle.std.specs.List.Sorted.{IsPermutation}
 use Rattle.std.proofs.lemmas.List.{flat_map_more, append-nil}
@@ -73,22 +73,11 @@ module _ {X : Type 0} where
   pub joined_change : (F G : ℕ → List X) (n k : ℕ) (x : X) → 1 ≤ k → k ≤ n → G k ≡ x ∷ F k → ((j : ℕ) → (j ≡ k → ⊥) → G j ≡ F j) → IsPermutation (flat_map G (upto n)) (x ∷ flat_map F (upto n))
   joined_change F G zero k x a b e h = absurd (omega arith)
   joined_change F G (suc n) k x a b e h =
-      let P : List X → List X → Type 0 = λ l r. IsPermutation l (x ∷ r) in
       elim (cases_eq (suc n) k) [
         | inl i ↦
             let rest : flat_map G (upto n) ≡ flat_map F (upto n) = joined_same G F n (λ j d. h j (λ s. omega arith)) in
             let last : G (suc n) ≡ x ∷ F (suc n) = ap G i ∙ e ∙ ap (λ j. x ∷ F j) (sym i) in
-            let f = joined_last F n in
-            let g = joined_last G n in
-            let left : flat_map F (upto n) ++ (x ∷ F (suc n)) ≡ flat_map G (upto (suc n)) = cc in
-            subst (λ l. IsPermutation l (x ∷ flat_map F (upto (suc n)))) left
-            (subst (λ r. IsPermutation (flat_map F (upto n) ++ (x ∷ F (suc n))) (x ∷ r)) (sym f) (IsPermutation-middle (flat_map F (upto n)) x (F (suc n))))
+            rw (joined_last G n, joined_last F n, rest, last) (IsPermutation-middle (flat_map F (upto n)) x (F (suc n)))
         | inr ne ↦
-            let rest = joined_change F G n k x a (omega arith) e h in
-            let last : G (suc n) ≡ F (suc n) = h (suc n) ne in
-            let f = joined_last F n in
-            let g = joined_last G n in
-            let left : flat_map G (upto n) ++ F (suc n) ≡ flat_map G (upto (suc n)) = cc in
-            subst (λ l. IsPermutation l (x ∷ flat_map F (upto (suc n)))) left
-            (subst (λ r. IsPermutation (flat_map G (upto n) ++ F (suc n)) (x ∷ r)) (sym f) (IsPermutation-append_left (F (suc n)) _ _ rest))
+            rw (joined_last G n, joined_last F n, h (suc n) ne) (IsPermutation-append_left (F (suc n)) _ _ (joined_change F G n k x a (omega arith) e h))
       ]
