@@ -1,6 +1,5 @@
 -- A kind whose containers have two halves: a piece is one half or a whole. Assumes nothing.
-use Rattle.std.specs.Prelude.{◌≡◌, ◌+◌, ◌*◌, ◌≤◌, Bool, true, cond, ◌&&◌, Some, None, sum_by, ◌==◌, nat_le}
-use Rattle.std.specs.List.{AllByRecursion}
+use Rattle.std.specs.Prelude.{◌≡◌, ◌+◌, ◌*◌, ◌≤◌, Bool, true, cond, ◌&&◌, Some, None, sum_by, All, ◌==◌, nat_le}
 use Rattle.refusals.specs.declared.PieceRefusal.TheVariants.{First}
 use Rattle.kinds.specs.declared.piece.Piece.{Piece}
 use Rattle.kinds.specs.Kind.{Meaning, between}
@@ -24,5 +23,5 @@ halves = record {
   load = λ p. cond (sized p) p.first 0;
   fits = λ c n l p. (c == 1 && sized p) && nat_le (l + p.first) 2;
   full = λ c n l. (c == 1) && nat_le 2 l;
-  Allowed = λ ps h. AllByRecursion (λ p. sized p ≡ true) ps × (sum_by (λ p. p.first) ps ≤ 2 * h);
+  Allowed = λ ps h. All (λ p. sized p ≡ true) ps × (sum_by (λ p. p.first) ps ≤ 2 * h);
 }

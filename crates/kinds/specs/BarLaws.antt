@@ -1,30 +1,26 @@
 -- Bars are lawful. Assumes nothing.
 use Rattle.std.proofs.Common.{◌≡◌, ℕ, ◌+◌, ◌*◌, ◌/◌, ◌%◌, ◌^◌, ◌<◌, ◌≤◌, min, Bool, true, false, cond, not, ◌&&◌, eqb, ltb, leb, List, [], ◌∷◌, ◌++◌, length, Some, None, sum_by, sym, refl, ap, ◌∙◌, subst, inl, inr, mul-le-mul_right, mul-le-mul, mul-le-mul_left, mul-pos, div-mul-le_self, arith, length-append}
-use native.Mathlib.Nat.{le_of_mul-le-mul_left, lt-div-mul-add, mul-div_cancel_left}
-use Rattle.std.specs.List.{AllByRecursion}
+use Rattle.std.proofs.Math.Nat.{le_of_mul-le-mul_left, lt-div-mul-add, mul-div_cancel', dvd-mul_right_of_dvd, dvd_of_mod-eq-zero}
+use Rattle.std.specs.List.{All}
 use Rattle.std.proofs.lemmas.Nat.{le-div}
 use Rattle.std.proofs.lemmas.List.Sums.{sum_by_push}
-use Rattle.std.proofs.ByRecursion.{All-push, All-weaker}
+use Rattle.std.proofs.lemmas.List.Elements.{All-nil, All-push, All-weaker}
 use Rattle.std.proofs.lemmas.Bool.{cases_lt, cases_Bool, lt-ltb, le-ltb, cond-true, cond-false}
 use Rattle.std.proofs.lemmas.Bool.Decides.{nat_tests}
 use Rattle.kinds.specs.declared.piece.Piece.{Piece}
 use Rattle.refusals.specs.declared.PieceRefusal.TheVariants.{Finish, First, Second}
-use Rattle.kinds.specs.Kind.{Meaning, Lawful, Admitted, ClassOf, Built, one_more, none_yet, level, weights, full_with, fits_after, told, between}
+use Rattle.kinds.specs.Kind.{Meaning, Lawful, Admitted, ClassOf, Built, one_more, none_yet, level, weights, full_with, fits_after, between}
 use Rattle.kinds.specs.Figures.{multiple, unit_factor, ceiling_factor}
 use Rattle.kinds.specs.Bars.{bar_refusal, bars_by, bars}
 use Rattle.kinds.specs.Factors.{Figures, figures}
 use Rattle.kinds.specs.Light.{Harmonic, light}
-use Rattle.kinds.specs.Told.{told_no, told_same, is_between, above}
+use Rattle.kinds.specs.Told.{told_yes, told_no, told_same, is_between, not_between, above}
 
 -- Numbers
 
 -- the whole part of u · C by a class
 share_of : (j u C : ℕ) → 1 ≤ j → u % j ≡ 0 → j * (u * C / j) ≡ u * C
-share_of j u C s e =
-    let f : u ≡ j * (u / j) = omega arith in
-    let d : u * C ≡ j * (u / j * C) = omega (arith, ap (λ n. n * C) f) in
-    let q : u * C / j ≡ u / j * C = ap (λ n. n / j) d ∙ mul-div_cancel_left (u / j * C) s in
-    omega (arith, ap (λ n. j * n) q)
+share_of j u C s e = mul-div_cancel' j (dvd-mul_right_of_dvd j (dvd_of_mod-eq-zero j e) C)
 
 -- the class of a length
 record Length (C k a c : ℕ) : Type 0 where
@@ -111,13 +107,13 @@ module _ {C k L u p : ℕ} (known : Measures C k L u p) where
   bar q a =
       let z = sized C q a in
       let c : ℕ = M.class q in
-      let is : c ≡ min k (C / q.first) = ap (λ r. told r (min k (C / q.first)) 0) a in
+      let is : c ≡ min k (C / q.first) = told_yes _ _ _ a in
       let l : Length C k q.first c = subst (Length C k q.first) (sym is) (length_class C k q.first (omega (arith, known.figs.many)) z.0 z.1) in
-      let weight_is : M.weight q ≡ cond (ltb c k) (u * C / c) (k * L * q.first) = ap (λ r. told r (cond (ltb c k) (u * C / c) (k * L * q.first)) 0) a in
+      let weight_is : M.weight q ≡ cond (ltb c k) (u * C / c) (k * L * q.first) = told_yes _ _ _ a in
       record {
         first_some = z.0;
         first_most = z.1;
-        load_is = ap (λ r. told r q.first 0) a;
+        load_is = told_yes _ _ _ a;
         is_class = (l.some, l.most);
         goes_in = l.goes_in;
         harmonic = record {
@@ -130,13 +126,13 @@ module _ {C k L u p : ℕ} (known : Measures C k L u p) where
       }
 
   pub fit_is : (c n l : ℕ) (q : Piece) → Admitted M q → M.fits c n l q ≡ bar_fit C k c n (l + q.first)
-  fit_is c n l q a = ap (λ r. told r (bar_fit C k c n (l + q.first)) false) a
+  fit_is c n l q a = told_yes _ _ _ a
 
   -- what a bar so built holds
   pub record Holds (c : ℕ) (ps : List Piece) : Type 0 where
     pub is_class : 0 < length ps → ClassOf M c
-    pub admitted : AllByRecursion (Admitted M) ps
-    pub one_class : AllByRecursion (λ q. M.class q ≡ c) ps
+    pub admitted : All (Admitted M) ps
+    pub one_class : All (λ q. M.class q ≡ c) ps
     pub level_is : level M ps ≡ sum_by (λ q. q.first) ps
     pub level_most : level M ps ≤ C
     pub shares : c * level M ps ≤ length ps * C
@@ -144,10 +140,10 @@ module _ {C k L u p : ℕ} (known : Measures C k L u p) where
     pub by_lengths : c ≡ k → weights M ps ≡ k * L * level M ps
 
   pub holds : {c : ℕ} {ps : List Piece} → Built M c ps → Holds c ps
-  holds none_yet = record {
+  holds {c} none_yet = record {
     is_class = λ s. absurd (omega arith);
-    admitted = tt;
-    one_class = tt;
+    admitted = All-nil (Admitted M);
+    one_class = All-nil (λ q. M.class q ≡ c);
     level_is = refl;
     level_most = omega arith;
     shares = omega arith;
@@ -182,7 +178,7 @@ module _ {C k L u p : ℕ} (known : Measures C k L u p) where
   in_class c h = is_between 1 k c h.0 h.1
 
   pub out_class : (c : ℕ) → (ClassOf M c → ⊥) → between 1 k c ≡ false
-  out_class c h = grind (arith, nat_tests, h)
+  out_class c h = not_between 1 k c h
 
   pub cost_one : (c : ℕ) → ClassOf M c → M.cost c ≡ 1
   cost_one c h = cond-true (between 1 k c) 1 0 (in_class c h)
@@ -248,7 +244,7 @@ module _ {C k L u p : ℕ} (known : Measures C k L u p) where
             omega (arith, y.last e, mul-le-mul_left L g, mul-le-mul_right C lcm_below)
       ]
 
-  pub bars_light : (ps : List Piece) → AllByRecursion (Admitted M) ps → sum_by (λ q. q.first) ps ≤ C → weights M ps ≤ p * C
+  pub bars_light : (ps : List Piece) → All (Admitted M) ps → sum_by (λ q. q.first) ps ≤ C → weights M ps ≤ p * C
   bars_light ps h l = light M.class M.weight (λ q. q.first) C k L u known.figs ps (All-weaker _ _ (λ q a. (bar q a).harmonic) ps h) l
 
   pub bars_by_lawful : Lawful (bars_by C k L u p)

@@ -1,6 +1,5 @@
 -- Bars of one capacity, in k harmonic classes. Assumes nothing.
-use Rattle.std.specs.Prelude.{◌≡◌, ℕ, ◌+◌, ◌*◌, ◌/◌, ◌≤◌, min, false, cond, not, ◌&&◌, Some, None, sum_by, Option, ◌==◌, nat_le, nat_lt}
-use Rattle.std.specs.List.{AllByRecursion}
+use Rattle.std.specs.Prelude.{◌≡◌, ℕ, ◌+◌, ◌*◌, ◌/◌, ◌≤◌, min, false, cond, not, ◌&&◌, Some, None, sum_by, Option, All, ◌==◌, nat_le, nat_lt}
 use Rattle.refusals.specs.declared.PieceRefusal.{PieceRefusal}
 use Rattle.refusals.specs.declared.PieceRefusal.TheVariants.{Finish, First, Second}
 use Rattle.refusals.specs.declared.MakeRefusal.{MakeRefusal}
@@ -38,7 +37,7 @@ module _ (C k L u p : ℕ) where
     load = λ q. told (bar_refusal C q) q.first 0;
     fits = λ c n l q. told (bar_refusal C q) (between 1 k c && cond (nat_lt c k) (nat_lt n c) (nat_le (l + q.first) C)) false;
     full = λ c n l. between 1 k c && (nat_lt c k && nat_le c n);
-    Allowed = λ ps h. (h ≡ 1) × AllByRecursion (λ q. bar_refusal C q ≡ None) ps × (sum_by (λ q. q.first) ps ≤ C);
+    Allowed = λ ps h. (h ≡ 1) × All (λ q. bar_refusal C q ≡ None) ps × (sum_by (λ q. q.first) ps ≤ C);
   }
 
 -- bars of the capacity C in k classes

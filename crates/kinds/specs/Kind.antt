@@ -1,6 +1,5 @@
 -- What a kind of container tells, and when it is lawful. Assumes nothing.
-use Rattle.std.specs.Prelude.{◌≡◌, ℕ, ◌*◌, ◌^◌, ◌<◌, ◌≤◌, Bool, true, false, ◌&&◌, ◌⊎◌, List, [], ◌∷◌, ◌++◌, length, Some, None, sum_by, Option, nat_le}
-use Rattle.std.specs.List.{AllByRecursion}
+use Rattle.std.specs.Prelude.{◌≡◌, ℕ, ◌*◌, ◌^◌, ◌<◌, ◌≤◌, Bool, true, false, ◌&&◌, ◌⊎◌, List, [], ◌∷◌, ◌++◌, length, Some, None, sum_by, Option, All, nat_le}
 use Rattle.refusals.specs.declared.PieceRefusal.{PieceRefusal}
 use Rattle.kinds.specs.declared.piece.Piece.{Piece}
 
@@ -96,7 +95,7 @@ pub record Lawful (m : Meaning) : Type 0 where
   pub full_weighs_enough : (c : ℕ) (ps : List Piece) → Built m c ps → full_with m c ps ≡ true → m.unit * m.cost c ≤ weights m ps
   pub unfit_weighs_enough : (c : ℕ) (ps : List Piece) (p : Piece) → Built m c ps → Admitted m p → m.class p ≡ c → fits_after m c ps p ≡ false → m.unit * m.cost c ≤ weights m ps
   -- an allowed container weighs at most ceiling × cost
-  pub allowed_admitted : (ps : List Piece) (h : ℕ) → 1 ≤ h → m.Allowed ps h → AllByRecursion (Admitted m) ps
+  pub allowed_admitted : (ps : List Piece) (h : ℕ) → 1 ≤ h → m.Allowed ps h → All (Admitted m) ps
   pub allowed_weighs_at_most : (ps : List Piece) (h : ℕ) → 1 ≤ h → m.Allowed ps h → weights m ps ≤ m.ceiling * h
   -- a class without standing cost leaves nothing open
   pub full_after_first : (p : Piece) → Admitted m p → m.standing (m.class p) ≡ 0 → full_with m (m.class p) (p ∷ []) ≡ true

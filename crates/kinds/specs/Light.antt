@@ -1,9 +1,9 @@
 -- The harmonic bound: what fits one capacity weighs at most the ceiling. Assumes nothing.
-use Rattle.std.proofs.Common.{◌≡◌, ℕ, ◌+◌, ◌-◌, ◌*◌, ◌<◌, ◌≤◌, min, ◌⊎◌, List, [], ◌∷◌, sum_by, sym, ap, subst, inl, inr, mul-le-mul_right, mul-le-mul_left, mul-pos, arith}
-use native.Mathlib.Nat.{le_of_mul-le-mul_left}
-use Rattle.std.specs.List.{AllByRecursion}
-use Rattle.std.proofs.lemmas.List.Sums.{sum_by-cons}
-use Rattle.std.proofs.ByRecursion.{All-weaker}
+use Rattle.std.proofs.Common.{◌≡◌, ℕ, ◌+◌, ◌-◌, ◌*◌, ◌<◌, ◌≤◌, min, ◌⊎◌, List, [], ◌∷◌, get_or, sum_by, sym, ap, subst, inl, inr, mul-le-mul_right, mul-le-mul_left, mul-pos, arith}
+use Rattle.std.proofs.Math.Nat.{le_of_mul-le-mul_left}
+use Rattle.std.specs.List.{All}
+use Rattle.std.proofs.lemmas.List.Elements.{All-nil, All-cons, All-head, All-tail}
+use Rattle.std.proofs.lemmas.List.Sums.{sum_by-cons, get_or-le-sum_by}
 use Rattle.std.proofs.lemmas.Bool.{cases_lt, cases_eq}
 use Rattle.kinds.specs.Factors.{Figures}
 
@@ -54,10 +54,10 @@ module _ {X : Type 0} (j w a : X → ℕ) (C k L u : ℕ) where
             subst (λ n. m * n ≤ u * (m + 1) * a x) (sym (h.last e)) (last_slope m k L u (a x) l lasts)
       ]
 
-  slope : u + L ≡ k * L → (m : ℕ) → m < k → (xs : List X) → AllByRecursion Harmonic xs → AllByRecursion (Past m) xs → m * sum_by w xs ≤ u * (m + 1) * sum_by a xs
+  slope : u + L ≡ k * L → (m : ℕ) → m < k → (xs : List X) → All Harmonic xs → All (Past m) xs → m * sum_by w xs ≤ u * (m + 1) * sum_by a xs
   slope lasts m l [] h p = omega arith
   slope lasts m l (x ∷ xs) h p =
-      omega (arith, ap (λ n. m * n) (sum_by-cons w x xs), ap (λ n. u * (m + 1) * n) (sum_by-cons a x xs), slope_one lasts m x l h.0 p.0, slope lasts m l xs h.1 p.1)
+      omega (arith, ap (λ n. m * n) (sum_by-cons w x xs), ap (λ n. u * (m + 1) * n) (sum_by-cons a x xs), slope_one lasts m x l (All-head Harmonic x xs h) (All-head (Past m) x xs p), slope lasts m l xs (All-tail Harmonic x xs h) (All-tail (Past m) x xs p))
 
   -- a piece of class t, and the others
   record Out (P : X → Type 0) (t : ℕ) (xs : List X) : Type 0 where
@@ -65,41 +65,39 @@ module _ {X : Type 0} (j w a : X → ℕ) (C k L u : ℕ) where
     others : List X
     is : j one ≡ t
     holds : P one
-    all : AllByRecursion P others
+    all : All P others
     sums : (f : X → ℕ) → sum_by f xs ≡ f one + sum_by f others
 
-  take_out : (P : X → Type 0) (t : ℕ) (xs : List X) → AllByRecursion P xs → Out P t xs ⊎ AllByRecursion (λ x. j x ≡ t → ⊥) xs
-  take_out P t [] h = inr tt
+  take_out : (P : X → Type 0) (t : ℕ) (xs : List X) → All P xs → Out P t xs ⊎ All (λ x. j x ≡ t → ⊥) xs
+  take_out P t [] h = inr (All-nil (λ x. j x ≡ t → ⊥))
   take_out P t (x ∷ xs) h =
       elim (cases_eq (j x) t) [
-        | inl e ↦ inl (record { one = x; others = xs; is = e; holds = h.0; all = h.1; sums = λ f. sum_by-cons f x xs })
+        | inl e ↦ inl (record { one = x; others = xs; is = e; holds = All-head P x xs h; all = All-tail P x xs h; sums = λ f. sum_by-cons f x xs })
         | inr n ↦
-            elim (take_out P t xs h.1) [
-              | inl o ↦ inl (record { one = o.one; others = x ∷ o.others; is = o.is; holds = o.holds; all = (h.0, o.all); sums = λ f. omega (arith, sum_by-cons f x xs, o.sums f, sum_by-cons f x o.others) })
-              | inr b ↦ inr (n, b)
+            elim (take_out P t xs (All-tail P x xs h)) [
+              | inl o ↦ inl (record { one = o.one; others = x ∷ o.others; is = o.is; holds = o.holds; all = All-cons P x o.others (All-head P x xs h) o.all; sums = λ f. omega (arith, sum_by-cons f x xs, o.sums f, sum_by-cons f x o.others) })
+              | inr b ↦ inr (All-cons (λ y. j y ≡ t → ⊥) x xs n b)
             ]
       ]
 
   -- short things are of late classes
-  short_past : (t : ℕ) (xs : List X) → AllByRecursion Harmonic xs → t * sum_by a xs < C → AllByRecursion (Past t) xs
-  short_past t [] h l = tt
-  short_past t (x ∷ xs) h l =
-      let e : t * sum_by a (x ∷ xs) ≡ t * a x + t * sum_by a xs = omega (arith, ap (λ n. t * n) (sum_by-cons a x xs)) in (
-        (λ b. elim (cases_lt (j x) t) [ inl c ↦ absurd (omega (arith, h.0.long b, mul-le-mul_right (a x) c)) | inr c ↦ c ]),
-        short_past t xs h.1 (omega arith),
-      )
+  short_past : (t : ℕ) (xs : List X) → All Harmonic xs → t * sum_by a xs < C → All (Past t) xs
+  short_past t xs h l i d s b =
+      let x : X = get_or xs i d in
+      elim (cases_lt (j x) t) [
+        | inl c ↦ absurd (omega (arith, (h i d s).long b, mul-le-mul_right (a x) c, mul-le-mul_left t (get_or-le-sum_by a xs i d s)))
+        | inr c ↦ c
+      ]
 
-  next_past : (t m : ℕ) (xs : List X) → m ≤ t + 1 → AllByRecursion (Past t) xs → AllByRecursion (λ x. j x ≡ t → ⊥) xs → AllByRecursion (Past m) xs
-  next_past t m [] l p n = tt
-  next_past t m (x ∷ xs) l p n = ((λ b. let c : t ≤ j x = p.0 b in let d : j x ≡ t → ⊥ = n.0 in omega arith), next_past t m xs l p.1 n.1)
+  next_past : (t m : ℕ) (xs : List X) → m ≤ t + 1 → All (Past t) xs → All (λ x. j x ≡ t → ⊥) xs → All (Past m) xs
+  next_past t m xs l p n i d s b = let c : t ≤ j (get_or xs i d) = p i d s b in let e : j (get_or xs i d) ≡ t → ⊥ = n i d s in omega arith
 
-  none_past : (t m : ℕ) (xs : List X) → k ≤ t → AllByRecursion (Past t) xs → AllByRecursion (Past m) xs
-  none_past t m [] l p = tt
-  none_past t m (x ∷ xs) l p = ((λ b. absurd (omega (arith, p.0 b))), none_past t m xs l p.1)
+  none_past : (t m : ℕ) (xs : List X) → k ≤ t → All (Past t) xs → All (Past m) xs
+  none_past t m xs l p i d s b = absurd (omega (arith, p i d s b))
 
   -- things from class t on that fit t times weigh at most N of 42 parts of a capacity
   abbrev pub Light : ℕ → ℕ → Type 0
-  Light t N = (xs : List X) → AllByRecursion Harmonic xs → AllByRecursion (Past t) xs → t * sum_by a xs ≤ C → 42 * sum_by w xs ≤ N * C
+  Light t N = (xs : List X) → All Harmonic xs → All (Past t) xs → t * sum_by a xs ≤ C → 42 * sum_by w xs ≤ N * C
 
   light_last : u + L ≡ k * L → (m : ℕ) → 1 ≤ m → m + 1 ≡ k → k ≤ 42 → Light 42 (k * L)
   light_last lasts m s i f xs h p l = at_last m k L u C (sum_by w xs) (sum_by a xs) s i lasts (slope lasts m (omega arith) xs h (none_past 42 m xs f p)) l
@@ -122,7 +120,7 @@ module _ {X : Type 0} (j w a : X → ℕ) (C k L u : ℕ) where
         | inr over ↦ with_none t m M u C (sum_by w xs) (sum_by a xs) s o (slope lasts m b xs h (none_past t m xs over p)) l test
       ]
 
-  pub light : {p : ℕ} → Figures k L u p → (xs : List X) → AllByRecursion Harmonic xs → sum_by a xs ≤ C → sum_by w xs ≤ p * C
+  pub light : {p : ℕ} → Figures k L u p → (xs : List X) → All Harmonic xs → sum_by a xs ≤ C → sum_by w xs ≤ p * C
   light {p} f xs h l =
       let all_three : 70 * u + k * L ≤ 42 * p = f.all_three in
       let lasts : u + L ≡ k * L = f.lasts in
@@ -132,5 +130,5 @@ module _ {X : Type 0} (j w a : X → ℕ) (C k L u : ℕ) where
       let from-sixth = light_step lasts 6 (min 7 (k - 1)) (k * L) (42 * p - 63 * u) (omega arith) (omega arith) (omega arith) (omega arith) f.no_sixth (omega arith) from_last in
       let from_Second = light_step lasts 2 (min 3 (k - 1)) (42 * p - 63 * u) (42 * p - 42 * u) (omega arith) (omega arith) (omega arith) (omega arith) f.no_second (omega arith) from-sixth in
       let from_First = light_step lasts 1 (min 2 (k - 1)) (42 * p - 42 * u) (42 * p) (omega arith) (omega arith) (omega arith) (omega arith) f.no_first (omega arith) from_Second in
-      let most : 42 * sum_by w xs ≤ 42 * p * C = from_First xs h (All-weaker Harmonic (Past 1) (λ x g b. g.some) xs h) (omega arith) in
+      let most : 42 * sum_by w xs ≤ 42 * p * C = from_First xs h (λ i d s b. (h i d s).some) (omega arith) in
       omega arith

@@ -1,6 +1,5 @@
 -- Strips of one width, cut into rows whose heights are powers of two. Assumes nothing.
-use Rattle.std.specs.Prelude.{◌≡◌, ℕ, zero, suc, ◌+◌, ◌-◌, ◌*◌, ◌^◌, ◌≤◌, Bool, false, cond, not, ◌&&◌, Some, None, sum_by, Option, ◌==◌, nat_le}
-use Rattle.std.specs.List.{AllByRecursion}
+use Rattle.std.specs.Prelude.{◌≡◌, ℕ, zero, suc, ◌+◌, ◌-◌, ◌*◌, ◌^◌, ◌≤◌, Bool, false, cond, not, ◌&&◌, Some, None, sum_by, Option, All, ◌==◌, nat_le}
 use Rattle.refusals.specs.declared.PieceRefusal.{PieceRefusal}
 use Rattle.refusals.specs.declared.PieceRefusal.TheVariants.{Finish, First, Second}
 use Rattle.refusals.specs.declared.MakeRefusal.{MakeRefusal}
@@ -56,5 +55,5 @@ strips C = record {
   load = λ p. told (strip_refusal C p) p.first 0;
   fits = λ c n l p. told (strip_refusal C p) (cond (narrow c) (nat_le (l + p.first) C) (wide c && n == 0)) false;
   full = λ c n l. wide c && nat_le 1 n;
-  Allowed = λ ps h. AllByRecursion (λ p. (strip_refusal C p ≡ None) × (p.second ≤ h)) ps × (sum_by area ps ≤ C * h);
+  Allowed = λ ps h. All (λ p. (strip_refusal C p ≡ None) × (p.second ≤ h)) ps × (sum_by area ps ≤ C * h);
 }

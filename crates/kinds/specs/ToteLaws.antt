@@ -1,15 +1,16 @@
 -- Totes are lawful: bars with a piece limit. Assumes nothing.
 use Rattle.std.proofs.Common.{◌≡◌, ℕ, ◌+◌, ◌*◌, ◌/◌, ◌^◌, ◌<◌, ◌≤◌, Bool, true, false, cond, ◌&&◌, ltb, leb, List, [], ◌∷◌, length, sym, ap, ◌∙◌, subst, inl, inr, mul-le-mul_right, mul-le-mul, mul-le-mul_left, mul-pos, arith, length-append}
-use native.Mathlib.Nat.{mul-div_cancel_left}
-use Rattle.std.specs.List.{AllByRecursion}
+use Rattle.std.proofs.Math.Nat.{mul-div_cancel_left}
+use Rattle.std.specs.List.{All}
+use Rattle.std.proofs.lemmas.List.Elements.{All-head, All-tail}
 use Rattle.std.proofs.lemmas.List.Sums.{sum_by-cons}
 use Rattle.std.proofs.lemmas.Bool.{cases_lt, lt-ltb, le-ltb, cond-true, cond-false}
 use Rattle.std.proofs.lemmas.Bool.Decides.{nat_tests}
 use Rattle.kinds.specs.declared.piece.Piece.{Piece}
-use Rattle.kinds.specs.Kind.{Meaning, Lawful, Admitted, ClassOf, Built, one_more, none_yet, level, weights, full_with, fits_after, told, between}
+use Rattle.kinds.specs.Kind.{Meaning, Lawful, Admitted, ClassOf, Built, one_more, none_yet, level, weights, full_with, fits_after, between}
 use Rattle.kinds.specs.Bars.{bars_by}
 use Rattle.kinds.specs.Totes.{totes_by, totes}
-use Rattle.kinds.specs.Told.{told_no, told_same}
+use Rattle.kinds.specs.Told.{told_yes, told_no, told_same}
 use Rattle.kinds.specs.BarLaws.{bar_fit, Measures, Bar, bar, fit_is, Holds, holds, out_class, cost_one, standing_none, count_heavy, level_heavy, lcm_below, unit_some, unit_most, weight_some, weight_most, bars_light, bars_by_lawful, measures}
 
 -- Tests, at count n and with a piece that brings the level to x
@@ -60,12 +61,12 @@ module _ {C k L u p K : ℕ} (known : Measures C k L u p) (room : k ≤ K) (few 
   is_bar q a = bar known q a
 
   fit_tote : (c n l : ℕ) (q : Piece) → Admitted T q → T.fits c n l q ≡ tote_fit C k K c n (l + q.first)
-  fit_tote c n l q a = ap (λ r. told r (tote_fit C k K c n (l + q.first)) false) a
+  fit_tote c n l q a = told_yes _ _ _ a
 
   -- a tote's weights by a bar's
 
   weight_is : (q : Piece) → Admitted T q → T.weight q ≡ cond (ltb (B.class q) k) (u * C * K / B.class q) (k * L * q.first * K + u * C)
-  weight_is q a = ap (λ r. told r (cond (ltb (B.class q) k) (u * C * K / B.class q) (k * L * q.first * K + u * C)) 0) a
+  weight_is q a = told_yes _ _ _ a
 
   weight_below : (q : Piece) → Admitted T q → B.class q < k → T.weight q ≡ K * B.weight q
   weight_below q a l =
@@ -85,14 +86,14 @@ module _ {C k L u p K : ℕ} (known : Measures C k L u p) (room : k ≤ K) (few 
         | inr l ↦ omega (arith, weight_last q a (omega (arith, (is_bar q a).is_class.1)))
       ]
 
-  weights_both : (ps : List Piece) → AllByRecursion (Admitted T) ps → (K * weights B ps ≤ weights T ps) × (weights T ps ≤ K * weights B ps + length ps * (u * C))
+  weights_both : (ps : List Piece) → All (Admitted T) ps → (K * weights B ps ≤ weights T ps) × (weights T ps ≤ K * weights B ps + length ps * (u * C))
   weights_both [] h = omega arith
   weights_both (q ∷ ps) h =
-      omega (arith, sum_by-cons T.weight q ps, ap (λ n. K * n) (sum_by-cons B.weight q ps), weight_both q h.0, weights_both ps h.1)
+      omega (arith, sum_by-cons T.weight q ps, ap (λ n. K * n) (sum_by-cons B.weight q ps), weight_both q (All-head (Admitted T) q ps h), weights_both ps (All-tail (Admitted T) q ps h))
 
-  weights_last : (ps : List Piece) → AllByRecursion (Admitted T) ps → AllByRecursion (λ q. B.class q ≡ k) ps → length ps * (u * C) ≤ weights T ps
+  weights_last : (ps : List Piece) → All (Admitted T) ps → All (λ q. B.class q ≡ k) ps → length ps * (u * C) ≤ weights T ps
   weights_last [] h e = omega arith
-  weights_last (q ∷ ps) h e = omega (arith, sum_by-cons T.weight q ps, weight_last q h.0 e.0, weights_last ps h.1 e.1)
+  weights_last (q ∷ ps) h e = omega (arith, sum_by-cons T.weight q ps, weight_last q (All-head (Admitted T) q ps h) (All-head (λ q. B.class q ≡ k) q ps e), weights_last ps (All-tail (Admitted T) q ps h) (All-tail (λ q. B.class q ≡ k) q ps e))
 
   -- a tote so built is a bar so built
   down : {c : ℕ} {ps : List Piece} → Built T c ps → Built B c ps × (length ps ≤ K)
@@ -113,7 +114,7 @@ module _ {C k L u p K : ℕ} (known : Measures C k L u p) (room : k ≤ K) (few 
   times {c} {ps} b h = omega (arith, mul-le-mul_left K h, (weights_both ps (held b).admitted).0)
 
   crowded : {c : ℕ} {ps : List Piece} → Built T c ps → c ≡ k → K ≤ length ps → u * C * K ≤ weights T ps
-  crowded {c} {ps} b i l = omega (arith, mul-le-mul_right (u * C) l, weights_last ps (held b).admitted (subst (λ n. AllByRecursion (λ q. B.class q ≡ n) ps) i (held b).one_class))
+  crowded {c} {ps} b i l = omega (arith, mul-le-mul_right (u * C) l, weights_last ps (held b).admitted (subst (λ n. All (λ q. B.class q ≡ n) ps) i (held b).one_class))
 
   counted : {c : ℕ} {ps : List Piece} → Built T c ps → ClassOf B c → cond (ltb c k) c K ≤ length ps → u * C * K ≤ weights T ps
   counted {c} {ps} b h l =

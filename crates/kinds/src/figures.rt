@@ -43,6 +43,7 @@ impl ClassNumber {
     }
 
     // L: a multiple of each of 1 to k - 1, and the least.
+    #[tactic(auto, using(crate::specs::Factors::multiple_listed, crate::specs::Factors::multiple_common, crate::specs::Factors::multiple_least))]
     pub(crate) fn multiple(self) -> u64
         ensures value { result ≡ multiple self.value }
         ensures common { (j : ℕ) → 1 ≤ j → j < self.value → result % j ≡ 0 }

@@ -24,6 +24,7 @@ impl Strips {
 }
 
 // The least number whose power of two is at least the height.
+#[tactic(auto, using(crate::specs::Ranks::rank_digits, crate::specs::Ranks::rank_enough, crate::specs::Ranks::rank_least, crate::specs::Ranks::rank_most))]
 fn rank_of(height: u32) -> u8
     requires some { 1 ≤ height }
     requires most { height ≤ 4096 }

@@ -1,10 +1,10 @@
 -- An allowance over a lawful kind is lawful. Assumes nothing.
-use Rattle.std.specs.Prelude.{◌≡◌, ℕ, ◌+◌, false, cond, List, map}
+use Rattle.std.specs.Prelude.{◌≡◌, ℕ, false, List, map}
 use Rattle.std.proofs.Common.{sym, ap, subst, ◌∙◌, arith}
 use Rattle.std.proofs.lemmas.List.{map_push, length-map}
-use Rattle.std.proofs.lemmas.Bool.{lt-leb, and_left, and_right}
 use Rattle.kinds.specs.declared.piece.Piece.{Piece}
 use Rattle.kinds.specs.Kind.{Meaning, Lawful, Admitted, Built, one_more, none_yet, full_with, fits_after, at_first, between}
+use Rattle.kinds.specs.Told.{above, below}
 use Rattle.layers.specs.Allowance.{widened, allowance}
 use Rattle.layers.specs.Mapped.{all_unmap, sum_over_map}
 
@@ -22,7 +22,7 @@ module _ (t : ℕ) (m : Meaning) where
       (one_more (built_down b) a e (sym (full_down c ps) ∙ nf) (sym (fits_down c ps p) ∙ ft))
 
   out : (p : Piece) → between 1 1000000 p.first ≡ false → widened t p ≡ at_first p 0
-  out p e = ap (λ b. at_first p (cond b (p.first + t) 0)) e
+  out p e = rw e
 
   pub allowance_lawful : Lawful m → Lawful (allowance t m)
   allowance_lawful law = record {
@@ -31,8 +31,8 @@ module _ (t : ℕ) (m : Meaning) where
     admitted_has_class = λ p. law.admitted_has_class (widened t p);
     refused_tells_nothing = λ p h. law.refused_tells_nothing (widened t p) h;
     no_class_tells_nothing = λ c h. let n = law.no_class_tells_nothing c h in (n.0, n.1, n.2, λ a b p. n.3 a b (widened t p));
-    first_zero_refused = λ p z h. law.first_zero_refused (widened t p) (ap (λ x. x.first) (out p (and_left _ _ (lt-leb 1 p.first (omega arith))))) h;
-    first_over_refused_as_zero = λ p o. ap m.refusal (out p (and_right _ _ (lt-leb p.first 1000000 o)));
+    first_zero_refused = λ p z h. law.first_zero_refused (widened t p) (ap (λ x. x.first) (out p (below 1 1000000 p.first (omega arith)))) h;
+    first_over_refused_as_zero = λ p o. ap m.refusal (out p (above 1 1000000 p.first o));
     weight_range = λ p. law.weight_range (widened t p);
     load_range = λ p. law.load_range (widened t p);
     unit_some = law.unit_some;

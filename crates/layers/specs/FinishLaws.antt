@@ -1,52 +1,49 @@
 -- Finishes over a lawful kind are lawful. Assumes nothing.
-use Rattle.std.specs.Prelude.{◌≡◌, ℕ, suc, ◌+◌, ◌-◌, ◌*◌, ◌/◌, ◌%◌, ◌<◌, ◌≤◌, Bool, true, false, cond, ◌&&◌, ltb, List, [], ◌∷◌, map, length, Some, None, sum_by, ◌≢◌, nat_le, nat_lt, refl}
-use Rattle.std.proofs.Common.{sym, ap, subst, ◌∙◌, inl, inr, mod-eq_of_lt, div-lt_iff_lt-mul, mod-lt, mul-le-mul_right, suc-mul, one-mul, div-mul-le_self, arith}
-use Rattle.std.proofs.Math.Nat.{mul-add-mod_self_right, mul-add-div_right, div-eq_of_lt}
-use Rattle.std.specs.List.{AllByRecursion}
-use Rattle.std.proofs.lemmas.Nat.{le-div}
+use Rattle.std.specs.Prelude.{◌≡◌, ℕ, ◌+◌, ◌-◌, ◌*◌, ◌/◌, ◌%◌, ◌<◌, ◌≤◌, Bool, true, false, cond, ◌&&◌, ltb, List, [], ◌∷◌, map, length, get_or, Some, None, sum_by, ◌≢◌, nat_lt, refl}
+use Rattle.std.proofs.Common.{sym, ap, subst, ◌∙◌, inl, inr, div-lt_iff_lt-mul, mod-lt, mul-le-mul_right, one-mul, div-mul-le_self, arith}
+use Rattle.std.specs.List.{All}
+use Rattle.std.proofs.lemmas.Nat.{le-div, div-mul-add, mod-mul-add, row_fits}
 use Rattle.std.proofs.lemmas.List.{map_push, length-map}
 use Rattle.std.proofs.lemmas.List.Sums.{sum_by-cons}
-use Rattle.std.proofs.ByRecursion.{All-push}
-use Rattle.std.proofs.lemmas.Bool.{lt-ltb, ltb-true, le-leb, leb-true, ne_eqb, and_parts, and_from, and_right, cases_Bool, true≢false}
+use Rattle.std.proofs.lemmas.List.Elements.{All-nil, All-cons, All-head, All-tail, All-push}
+use Rattle.std.proofs.lemmas.Bool.{true_from_ne_false, cond-true, cond-false, lt-ltb, ltb-true, ne_eqb, and_right, cases_Bool, true≢false}
 use Rattle.kinds.specs.declared.piece.Piece.{Piece}
 use Rattle.refusals.specs.declared.PieceRefusal.TheVariants.{Finish}
-use Rattle.kinds.specs.Kind.{Meaning, Lawful, Admitted, ClassOf, Built, one_more, none_yet, level, full_with, fits_after}
+use Rattle.kinds.specs.Kind.{Meaning, Lawful, Admitted, ClassOf, Built, one_more, none_yet, full_with, fits_after}
+use Rattle.kinds.specs.Told.{is_between, in_between, not_between}
+use Rattle.layers.specs.Mapped.{all_unmap}
 use Rattle.layers.specs.Finishes.{plain, below, has_class, finishes_by, reckoned, finishes}
 
 -- classes in rows of n
 row_rest : (n f k : ℕ) → 1 ≤ k → k ≤ n → (f * n + k - 1) % n + 1 ≡ k
 row_rest n f k a b =
     let e : f * n + k - 1 ≡ f * n + (k - 1) = omega arith in
-    let r : (f * n + k - 1) % n ≡ k - 1 = ap (λ x. x % n) e ∙ mul-add-mod_self_right f n (k - 1) ∙ mod-eq_of_lt (omega arith) in
-    omega arith
+    omega (arith, ap (λ x. x % n) e, mod-mul-add f n (k - 1) (omega arith))
 
 row_is : (n f k : ℕ) → 1 ≤ k → k ≤ n → (f * n + k - 1) / n ≡ f
 row_is n f k a b =
     let e : f * n + k - 1 ≡ f * n + (k - 1) = omega arith in
-    let z : (k - 1) / n ≡ 0 = div-eq_of_lt (omega arith) in
-    let r = mul-add-div_right {m = n} (omega arith) f (k - 1) in
-    ap (λ x. x / n) e ∙ omega arith
+    ap (λ x. x / n) e ∙ div-mul-add f n (k - 1) (omega arith)
 
 row_within : (n F f k : ℕ) → f < F → k ≤ n → f * n + k ≤ F * n
-row_within n F f k a b = omega (arith, mul-le-mul_right {m = suc f} {n = F} n a, suc-mul f n)
+row_within n F f k a b = omega (arith, row_fits f n F n a (omega arith))
 
 none_is_some : {X : Type 0} (r : X) → None ≢ Some r
-none_is_some r e = let z : ◌≡◌ {A = ℕ} 0 1 = cc in omega arith
+none_is_some r e = cc
 
 same_both : {X : Type 0} {x : X} (b : Bool) → cond b x x ≡ x
 same_both true = refl
 same_both false = refl
 
 module _ (F : ℕ) (m : Meaning) (law : Lawful m) where
-  all_low : (f : ℕ) → f < F → (ps : List Piece) → AllByRecursion (λ p. p.finish ≡ f) ps → AllByRecursion (λ p. p.finish < F) ps
-  all_low f l [] h = tt
-  all_low f l (p ∷ ps) h = (omega (arith, h.0), all_low f l ps h.1)
+  all_low : (f : ℕ) → f < F → (ps : List Piece) → All (λ p. p.finish ≡ f) ps → All (λ p. p.finish < F) ps
+  all_low f l ps h i d s = omega (arith, h i d s)
 
-  all_down : (f : ℕ) → f < F → (ps : List Piece) → AllByRecursion (λ p. p.finish ≡ f) ps → AllByRecursion (Admitted m) (map plain ps) → AllByRecursion (Admitted (finishes_by F m)) ps
-  all_down f l [] h a = tt
-  all_down f l (p ∷ ps) h a =
-      let e : ltb p.finish F ≡ true = lt-ltb p.finish F (omega (arith, h.0)) in
-      (ap (λ b. cond b (m.refusal (plain p)) (Some Finish)) e ∙ a.0, all_down f l ps h.1 a.1)
+  all_down : (f : ℕ) → f < F → (ps : List Piece) → All (λ p. p.finish ≡ f) ps → All (Admitted m) (map plain ps) → All (Admitted (finishes_by F m)) ps
+  all_down f l ps h a i d s =
+      let p : Piece = get_or ps i d in
+      let e : ltb p.finish F ≡ true = lt-ltb p.finish F (omega (arith, h i d s)) in
+      cond-true _ _ _ e ∙ all_unmap (Admitted m) plain ps a i d s
 
   -- an admitted piece, of class c
   record Down (c : ℕ) (p : Piece) : Type 0 where
@@ -57,14 +54,10 @@ module _ (F : ℕ) (m : Meaning) (law : Lawful m) where
     has : has_class F m c ≡ true
 
   low_finish : (p : Piece) → Admitted (finishes_by F m) p → nat_lt p.finish F ≡ true
-  low_finish p a =
-      elim (cases_Bool (nat_lt p.finish F)) [
-        | inl e ↦ e
-        | inr e ↦ absurd (none_is_some Finish (sym a ∙ ap (λ b. cond b (m.refusal (plain p)) (Some Finish)) e))
-      ]
+  low_finish p a = true_from_ne_false (nat_lt p.finish F) (λ e. none_is_some Finish (sym a ∙ cond-false _ _ _ e))
 
   below_admitted : (p : Piece) → Admitted (finishes_by F m) p → Admitted m (plain p)
-  below_admitted p a = sym (ap (λ b. cond b (m.refusal (plain p)) (Some Finish)) (low_finish p a)) ∙ a
+  below_admitted p a = sym (cond-true _ _ _ (low_finish p a)) ∙ a
 
   class_is : (p : Piece) → Admitted (finishes_by F m) p → (finishes_by F m).class p ≡ p.finish * m.classes + m.class (plain p)
   class_is p a =
@@ -78,10 +71,10 @@ module _ (F : ℕ) (m : Meaning) (law : Lawful m) where
       subst (ClassOf (finishes_by F m)) (sym (class_is p a)) (omega (arith, k.0), w)
 
   has_from : (c : ℕ) → ClassOf (finishes_by F m) c → has_class F m c ≡ true
-  has_from c k = and_from _ _ (le-leb 1 c k.0) (le-leb c (F * m.classes) k.1)
+  has_from c k = is_between 1 (F * m.classes) c k.0 k.1
 
   from_has : (c : ℕ) → has_class F m c ≡ true → ClassOf (finishes_by F m) c
-  from_has c e = let b = and_parts (nat_le 1 c) (nat_le c (F * m.classes)) e in (leb-true 1 c b.0, leb-true c (F * m.classes) b.1)
+  from_has c e = in_between 1 (F * m.classes) c e
 
   below_class : (c : ℕ) → ClassOf m (below F m c)
   below_class c = (omega arith, omega (arith, mod-lt (c - 1) {m = m.classes} law.some_class))
@@ -99,21 +92,21 @@ module _ (F : ℕ) (m : Meaning) (law : Lawful m) where
       }
 
   -- a measure of pieces that this layer passes on
-  sum_down : (f : Piece → ℕ) (ps : List Piece) → AllByRecursion (λ p. p.finish < F) ps → sum_by (λ p. cond (nat_lt p.finish F) (f (plain p)) 0) ps ≡ sum_by f (map plain ps)
+  sum_down : (f : Piece → ℕ) (ps : List Piece) → All (λ p. p.finish < F) ps → sum_by (λ p. cond (nat_lt p.finish F) (f (plain p)) 0) ps ≡ sum_by f (map plain ps)
   sum_down f [] h = refl
   sum_down f (p ∷ ps) h =
       sum_by-cons (λ p. cond (nat_lt p.finish F) (f (plain p)) 0) p ps
-      ∙ ap (λ b. cond b (f (plain p)) 0 + sum_by (λ p. cond (nat_lt p.finish F) (f (plain p)) 0) ps) (lt-ltb p.finish F h.0)
-      ∙ ap (λ n. f (plain p) + n) (sum_down f ps h.1)
+      ∙ ap (λ b. cond b (f (plain p)) 0 + sum_by (λ p. cond (nat_lt p.finish F) (f (plain p)) 0) ps) (lt-ltb p.finish F (All-head (λ p. p.finish < F) p ps h))
+      ∙ ap (λ n. f (plain p) + n) (sum_down f ps (All-tail (λ p. p.finish < F) p ps h))
       ∙ sym (sum_by-cons f (plain p) (map plain ps))
 
-  full_down : (c : ℕ) (ps : List Piece) → has_class F m c ≡ true → AllByRecursion (λ p. p.finish < F) ps → full_with (finishes_by F m) c ps ≡ full_with m (below F m c) (map plain ps)
+  full_down : (c : ℕ) (ps : List Piece) → has_class F m c ≡ true → All (λ p. p.finish < F) ps → full_with (finishes_by F m) c ps ≡ full_with m (below F m c) (map plain ps)
   full_down c ps e h =
       let n = length-map ps plain in
       let l = sum_down m.load ps h in
       rw e (cc)
 
-  fits_down : (c : ℕ) (ps : List Piece) (p : Piece) → has_class F m c ≡ true → p.finish < F → AllByRecursion (λ p. p.finish < F) ps → fits_after (finishes_by F m) c ps p ≡ fits_after m (below F m c) (map plain ps) (plain p)
+  fits_down : (c : ℕ) (ps : List Piece) (p : Piece) → has_class F m c ≡ true → p.finish < F → All (λ p. p.finish < F) ps → fits_after (finishes_by F m) c ps p ≡ fits_after m (below F m c) (map plain ps) (plain p)
   fits_down c ps p e f h =
       let n = length-map ps plain in
       let l = sum_down m.load ps h in
@@ -121,11 +114,11 @@ module _ (F : ℕ) (m : Meaning) (law : Lawful m) where
 
   record Passed (c : ℕ) (ps : List Piece) : Type 0 where
     built : Built m (below F m c) (map plain ps)
-    low : AllByRecursion (λ p. p.finish < F) ps
-    same : AllByRecursion (λ p. p.finish ≡ (c - 1) / m.classes) ps
+    low : All (λ p. p.finish < F) ps
+    same : All (λ p. p.finish ≡ (c - 1) / m.classes) ps
 
   built_down : {c : ℕ} {ps : List Piece} → Built (finishes_by F m) c ps → Passed c ps
-  built_down none_yet = record { built = none_yet; low = tt; same = tt }
+  built_down {c} none_yet = record { built = none_yet; low = All-nil (λ p. p.finish < F); same = All-nil (λ p. p.finish ≡ (c - 1) / m.classes) }
   built_down {c} (one_more {ps = ps} {p = p} b a e nf ft) =
       let r : Passed c ps = built_down b in
       let d : Down c p = down c p a e in
@@ -152,17 +145,13 @@ module _ (F : ℕ) (m : Meaning) (law : Lawful m) where
   not_admitted_down p h =
       elim (cases_Bool (nat_lt p.finish F)) [
         | inl e ↦
-            let n = law.refused_tells_nothing (plain p) (λ a. h (ap (λ b. cond b (m.refusal (plain p)) (Some Finish)) e ∙ a)) in
+            let n = law.refused_tells_nothing (plain p) (λ a. h (cond-true _ _ _ e ∙ a)) in
             (rw (e, n.0), rw (e, n.1), rw (e, n.2), λ c k l. ap (λ b. cond (has_class F m c && nat_lt p.finish F) b false) (n.3 (below F m c) k l) ∙ same_both (has_class F m c && nat_lt p.finish F))
         | inr e ↦ (rw e, rw e, rw e, λ c k l. ap (λ b. cond b (m.fits (below F m c) k l (plain p)) false) (and_right (has_class F m c) (nat_lt p.finish F) e))
       ]
 
   no_class_down : (c : ℕ) → (ClassOf (finishes_by F m) c → ⊥) → ((finishes_by F m).cost c ≡ 0) × ((finishes_by F m).standing c ≡ 0) × ((n l : ℕ) → (finishes_by F m).full c n l ≡ false) × ((n l : ℕ) (p : Piece) → (finishes_by F m).fits c n l p ≡ false)
-  no_class_down c h =
-      elim (cases_Bool (has_class F m c)) [
-        | inl e ↦ absurd (h (from_has c e))
-        | inr e ↦ (rw e, rw e, λ n l. rw e, λ n l p. rw e)
-      ]
+  no_class_down c h = let e = not_between 1 (F * m.classes) c h in (rw e, rw e, λ n l. rw e, λ n l p. rw e)
 
   pub finishes_by_lawful : 1 ≤ F → F * m.classes ≤ 104 → Lawful (finishes_by F m)
   finishes_by_lawful some few = record {
@@ -182,7 +171,7 @@ module _ (F : ℕ) (m : Meaning) (law : Lawful m) where
     empty_takes = λ p a.
         let c : ℕ = (finishes_by F m).class p in
         let d : Down c p = down c p a refl in
-        fits_down c [] p d.has d.low tt ∙ ap (λ k. m.fits k 0 0 (plain p)) (sym d.class) ∙ law.empty_takes (plain p) d.admitted;
+        fits_down c [] p d.has d.low (All-nil (λ p. p.finish < F)) ∙ ap (λ k. m.fits k 0 0 (plain p)) (sym d.class) ∙ law.empty_takes (plain p) d.admitted;
     empty_not_full = λ c k. rw (has_from c k) (law.empty_not_full (below F m c) (below_class c));
     built_allowed = λ c ps some b.
         let r : Passed c ps = built_down b in
@@ -194,7 +183,7 @@ module _ (F : ℕ) (m : Meaning) (law : Lawful m) where
           let r : Passed c ps = built_down b in
           let k = law.full_weighs_enough (below F m c) (map plain ps) r.built (sym (full_down c ps e r.low) ∙ f) in
           omega (arith, k, sum_down m.weight ps r.low, ap (λ n. m.unit * n) (cost_down c e))
-      | inr e ↦ absurd (true≢false (sym f ∙ ap (λ b. cond b (m.full (below F m c) (length ps) (level (finishes_by F m) ps)) false) e))
+      | inr e ↦ absurd (true≢false (sym f ∙ cond-false _ _ _ e))
     ];
     unfit_weighs_enough = λ c ps p b a i f.
         let r : Passed c ps = built_down b in
@@ -207,7 +196,7 @@ module _ (F : ℕ) (m : Meaning) (law : Lawful m) where
         let c : ℕ = (finishes_by F m).class p in
         let d : Down c p = down c p a refl in
         let s : m.standing (m.class (plain p)) ≡ 0 = ap m.standing d.class ∙ sym (standing_down c d.has) ∙ z in
-        full_down c (p ∷ []) d.has (d.low, tt) ∙ ap (λ k. full_with m k (plain p ∷ [])) (sym d.class) ∙ law.full_after_first (plain p) d.admitted s;
+        full_down c (p ∷ []) d.has (All-cons (λ p. p.finish < F) p [] d.low (All-nil (λ p. p.finish < F))) ∙ ap (λ k. full_with m k (plain p ∷ [])) (sym d.class) ∙ law.full_after_first (plain p) d.admitted s;
   }
 
 -- the finishes that are reckoned with have room

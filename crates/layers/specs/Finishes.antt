@@ -1,6 +1,5 @@
 -- Finishes over a kind: its classes once for each finish. Assumes nothing.
-use Rattle.std.specs.Prelude.{◌≡◌, ℕ, ◌+◌, ◌-◌, ◌*◌, ◌/◌, ◌%◌, ◌<◌, min, Bool, false, cond, if◌then◌else◌, not, ◌&&◌, map, Some, None, Option, ◌==◌, nat_le, nat_lt}
-use Rattle.std.specs.List.{AllByRecursion}
+use Rattle.std.specs.Prelude.{◌≡◌, ℕ, ◌+◌, ◌-◌, ◌*◌, ◌/◌, ◌%◌, ◌<◌, min, Bool, false, cond, if◌then◌else◌, not, ◌&&◌, map, Some, None, Option, All, ◌==◌, nat_le, nat_lt}
 use Rattle.refusals.specs.declared.MakeRefusal.{MakeRefusal}
 use Rattle.refusals.specs.declared.MakeRefusal.TheVariants.{Finishes}
 use Rattle.refusals.specs.declared.PieceRefusal.TheVariants.{Finish}
@@ -44,7 +43,7 @@ module _ (F : ℕ) (m : Meaning) where
     load = λ p. cond (nat_lt p.finish F) (m.load (plain p)) 0;
     fits = λ c n l p. cond (has_class c && nat_lt p.finish F) (m.fits (below c) n l (plain p)) false;
     full = λ c n l. cond (has_class c) (m.full (below c) n l) false;
-    Allowed = λ ps h. (f : ℕ) × (f < F) × AllByRecursion (λ p. p.finish ≡ f) ps × m.Allowed (map plain ps) h;
+    Allowed = λ ps h. (f : ℕ) × (f < F) × All (λ p. p.finish ≡ f) ps × m.Allowed (map plain ps) h;
   }
 
 -- as many finishes as have room in 104 classes: F, of any layer that is made

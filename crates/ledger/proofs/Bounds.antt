@@ -9,6 +9,9 @@ use Rattle.kinds.specs.Kind.{Meaning, Lawful, Admitted}
 use Rattle.ledger.specs.Rules.{nothing, new_ledger, goes_on, taking, taken, closes_after, ledger_after}
 use Rattle.ledger.specs.Bounded.{Within, Bounded}
 
+pub class_range : (m : Meaning) → Lawful m → (p : Piece) → Admitted m p → (1 ≤ m.class p) × (m.class p ≤ 104)
+class_range m law p a = omega (arith, law.admitted_has_class p a, law.few_classes)
+
 pub cost_bounded : (m : Meaning) → Lawful m → (p : Piece) → Admitted m p → m.cost (m.class p) ≤ 2 ^ 44
 cost_bounded m law p a =
     let r = law.cost_range (m.class p) (law.admitted_has_class p a) in

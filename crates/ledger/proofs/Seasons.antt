@@ -1,9 +1,10 @@
 -- Every season over a lawful kind keeps its promise. Assumes nothing.
 use Rattle.std.proofs.Common.{◌≡◌, ℕ, suc, ◌+◌, ◌-◌, ◌*◌, ◌<◌, ◌≤◌, Bool, true, false, cond, ◌&&◌, ◌||◌, eqb, ltb, leb, ◌⊎◌, List, [], ◌∷◌, ◌++◌, Some, None, Ok, Err, sum_by, Option, Result, sym, refl, ap, ◌∙◌, subst, inl, inr, mul-le-mul_left, mul-zero, mul-add, add-one, arith}
-use Rattle.std.specs.List.{flat_map, AllByRecursion}
+use Rattle.std.specs.List.{flat_map, All}
 use Rattle.std.specs.List.Sorted.{IsPermutation}
-use Rattle.std.proofs.lemmas.List.{flat_map_more, append-nil, get_or-replicate, length_push}
-use Rattle.std.proofs.ByRecursion.{All-weaker, All-map}
+use Rattle.std.proofs.lemmas.List.{get_or-replicate, length_push}
+use Rattle.std.proofs.lemmas.List.Elements.{All-nil, All-head, All-tail, All-weaker, All-map}
+use Rattle.std.proofs.lemmas.List.Folds.{fold-map, flat_map-map}
 use Rattle.std.proofs.lemmas.List.Sums.{sum_by_push, sum_by-append, sum_by-cons}
 use Rattle.std.proofs.lemmas.List.Sorted.{sum_by-IsPermutation}
 use Rattle.std.proofs.lemmas.Bool.{cases_Bool, leb-false, le-leb, true≢false, and_parts, and_right}
@@ -16,11 +17,12 @@ use Rattle.ledger.specs.declared.Slot.{Slot}
 use Rattle.ledger.specs.declared.Ledger.{Ledger}
 use Rattle.kinds.specs.Kind.{Meaning, Lawful, Admitted, Built, one_more, none_yet, weights, full_with, fits_after}
 use Rattle.ledger.specs.Rules.{upto, floor_of, open_in, stands, nothing, new_ledger, found, fits_found, goes_on, taking, placing, closings, closes_after, kind_answer, put_answer, ledger_after, ledger_by, report, Call, a_put, a_report, Ran, made, then_put, then_report}
-use Rattle.ledger.specs.Season.{Container, AllowedContainer, AllowedPacking, cost_of, standing_cost, Placed, placed_by, placed, pieces_of, pieces_in, class_in, numbers, container_in, grouped, Season}
+use Rattle.ledger.specs.Season.{Container, AllowedContainer, AllowedPacking, cost_of, standing_cost, Placed, placed, pieces_of, pieces_in, class_in, numbers, container_in, grouped, Season}
 use Rattle.ledger.specs.Season.{CapIdle}
 use Rattle.ledger.proofs.Floors.{floor_covers, floor_least}
-use Rattle.ledger.proofs.Uptos.{all_upto, sum_same, sum_le, sum_past, sum_over_map, joined_over_map}
-use Rattle.ledger.proofs.Groups.{push, class_push_found, class_push_new, pieces_none, numbers_push_new, numbers_push_found, regrouped}
+use Rattle.ledger.proofs.Bounds.{class_range}
+use Rattle.ledger.proofs.Uptos.{all_upto, sum_same, sum_le, sum_past}
+use Rattle.ledger.proofs.Groups.{push, Elsewhere, Numbered, placed_then, placed_same, class_push_found, class_push_new, pieces_none, numbers_push_new, numbers_push_found, regrouped}
 use Rattle.ledger.proofs.Sound.{open_weight, open_cost_in, Tells, Open, Group, Sound, placed_in, Ready}
 use Rattle.ledger.proofs.Step.{stepped}
 
@@ -39,13 +41,13 @@ abbrev fresh : Ledger → Slot
 fresh s = record { container = s.opened + 1; count = 0; level = 0; weight = 0 }
 
 module _ (m : Meaning) (law : Lawful m) (qs : List Placed) (s : Ledger) (sound : Sound m qs s) (p : Piece) (admitted : Admitted m p) where
-  class_range : (1 ≤ m.class p) × (m.class p ≤ 104)
-  class_range = omega (arith, law.admitted_has_class p admitted, law.few_classes)
+  is_class : (1 ≤ m.class p) × (m.class p ≤ 104)
+  is_class = class_range m law p admitted
 
   -- it stands open, and the piece fits
   going : stands (found m s p) ≡ true → fits_found m s p ≡ true → Ready m qs s p (found m s p) s.opened s.used
   going up fit =
-      let o : Open m qs s.opened (m.class p) (found m s p) = sound.opens (m.class p) class_range.0 class_range.1 up in
+      let o : Open m qs s.opened (m.class p) (found m s p) = sound.opens (m.class p) is_class.0 is_class.1 up in
       let n : ℕ = (found m s p).container in
       let g : Group m qs n = sound.groups n o.low o.high in
       record {
@@ -65,10 +67,10 @@ module _ (m : Meaning) (law : Lawful m) (qs : List Placed) (s : Ledger) (sound :
         ratio = rw up (going_sum _ _ (found m s p).weight _ _ (m.unit * m.cost (m.class p)) sound.ratio);
       }
 
-  not_yet : AllByRecursion (λ q. q.container ≡ s.opened + 1 → ⊥) qs
-  not_yet = All-weaker (λ q. (1 ≤ q.container) × (q.container ≤ s.opened)) _ (λ q h e. omega (arith, h.1, e)) qs sound.within
+  not_yet : All (Elsewhere (s.opened + 1)) qs
+  not_yet = All-weaker (Numbered s.opened) (Elsewhere (s.opened + 1)) (λ q h e. omega (arith, h.1, e)) qs sound.within
 
-  none_in : pieces_in (s.opened + 1) qs ≡ []
+  pub none_in : pieces_in (s.opened + 1) qs ≡ []
   none_in = pieces_none (s.opened + 1) qs not_yet
 
   class_then : class_in (s.opened + 1) (push qs (placed_in m p (fresh s))) ≡ m.class p
@@ -82,7 +84,7 @@ module _ (m : Meaning) (law : Lawful m) (qs : List Placed) (s : Ledger) (sound :
   cap_idle up =
       elim (cases_Bool (m.fits (m.class p) (found m s p).count (found m s p).level p)) [
         | inl fit ↦
-            let o : Open m qs s.opened (m.class p) (found m s p) = sound.opens (m.class p) class_range.0 class_range.1 up in
+            let o : Open m qs s.opened (m.class p) (found m s p) = sound.opens (m.class p) is_class.0 is_class.1 up in
             let ps : List Piece = pieces_in (found m s p).container qs in
             let k = law.built_allowed (m.class p) (ps ++ (p ∷ [])) (omega (arith, length_push ps p)) (one_more o.built admitted refl o.not_full (cc (o.tells.count, o.tells.level, fit))) in
             let h : (found m s p).level + m.load p ≤ 1000000 = omega (arith, k.1, sum_by_push m.load ps p, o.tells.level) in
@@ -95,7 +97,7 @@ module _ (m : Meaning) (law : Lawful m) (qs : List Placed) (s : Ledger) (sound :
   heavy off =
       elim (cases_Bool (stands (found m s p))) [
         | inl up ↦
-            let o : Open m qs s.opened (m.class p) (found m s p) = sound.opens (m.class p) class_range.0 class_range.1 up in
+            let o : Open m qs s.opened (m.class p) (found m s p) = sound.opens (m.class p) is_class.0 is_class.1 up in
             let unfit : m.fits (m.class p) (found m s p).count (found m s p).level p ≡ false = sym (cap_idle up) ∙ subst (λ b. (b && fits_found m s p) ≡ false) up off in
             rw up (omega (arith, o.tells.weight, law.unfit_weighs_enough (m.class p) _ p o.built admitted refl (cc (o.tells.count, o.tells.level, unfit))))
         | inr down ↦ rw down (omega (arith, mul-zero m.unit))
@@ -162,18 +164,15 @@ module _ (m : Meaning) (s : Ledger) (p : Piece) where
   pub answered : (places closes : ℕ) → Answered (put_answer m s p places closes)
   answered places closes = by_cond (eqb p.number 0) NoNumber _ (λ some. by_kind (m.refusal p) refl places closes)
 
-placed_push : (h : List Call) (c : Call) → placed (h ++ (c ∷ [])) ≡ placed h ++ placed_by c
-placed_push h c = sym (flat_map_more placed_by [] h c)
-
 new_down : (c : ℕ) → c ≤ 104 → open_in new_ledger c ≡ nothing
 new_down c h = get_or-replicate 104 (c - 1) nothing nothing (omega arith)
 
 new_sound : (m : Meaning) → Sound m [] new_ledger
 new_sound m = record {
   bank = refl;
-  within = tt;
+  within = All-nil (Numbered 0);
   in_turn = refl;
-  classes = tt;
+  classes = All-nil (λ q. q.class ≡ class_in q.container []);
   weight = refl;
   used = refl;
   groups = λ n a b. absurd (omega arith);
@@ -184,15 +183,15 @@ new_sound m = record {
 put_sound : (m : Meaning) → Lawful m → (h : List Call) (s : Ledger) → Sound m (placed h) s → (p : Piece) (a : Result Placing PutRefusal) → Answered m s p a → Sound m (placed (h ++ (a_put p a ∷ []))) (ledger_by m s p a)
 put_sound m law h s sound p a (inl x) =
     subst (λ y. Sound m (placed (h ++ (a_put p y ∷ []))) (ledger_by m s p y)) (sym x.1)
-    (subst (λ l. Sound m l s) (sym (placed_push h (a_put p (Err x.0)) ∙ append-nil (placed h))) sound)
+    (subst (λ l. Sound m l s) (sym (placed_same h (a_put p (Err x.0)) refl)) sound)
 put_sound m law h s sound p a (inr x) =
     subst (λ y. Sound m (placed (h ++ (a_put p y ∷ []))) (ledger_by m s p y)) (sym x.1)
-    (subst (λ l. Sound m l (ledger_after m s p)) (sym (placed_push h (a_put p (Ok (placing m s p))))) (accepted_sound m law (placed h) s sound p x.0))
+    (subst (λ l. Sound m l (ledger_after m s p)) (sym (placed_then h (a_put p (Ok (placing m s p))))) (accepted_sound m law (placed h) s sound p x.0))
 
 pub ran_sound : (m : Meaning) → Lawful m → {h : List Call} {s : Ledger} → Ran m h s → Sound m (placed h) s
 ran_sound m law made = new_sound m
 ran_sound m law (then_put {h = h} {s = s} r p places closes) = put_sound m law h s (ran_sound m law r) p _ (answered m s p places closes)
-ran_sound m law (then_report {h = h} {s = s} r) = subst (λ l. Sound m l s) (sym (placed_push h (a_report (report m s)) ∙ append-nil (placed h))) (ran_sound m law r)
+ran_sound m law (then_report {h = h} {s = s} r) = subst (λ l. Sound m l s) (sym (placed_same h (a_report (report m s)) refl)) (ran_sound m law r)
 
 -- What a sound ledger owes
 
@@ -200,24 +199,25 @@ module _ (m : Meaning) (law : Lawful m) (h : List Call) (s : Ledger) (sound : So
   packed : AllowedPacking m (pieces_of (placed h)) (grouped m (placed h))
   packed = record {
     each_allowed = All-map (AllowedContainer m) (container_in m (placed h)) (numbers (placed h))
-        (subst (AllByRecursion (λ n. AllowedContainer m (container_in m (placed h) n))) (sym sound.in_turn)
-        (all_upto _ s.opened (λ n a b. let g : Group m (placed h) n = sound.groups n a b in (g.costs, g.allowed))));
+        (subst (All (λ n. AllowedContainer m (container_in m (placed h) n))) (sym sound.in_turn)
+        (all_upto (λ n. AllowedContainer m (container_in m (placed h) n)) s.opened (λ n a b. let g : Group m (placed h) n = sound.groups n a b in (g.costs, g.allowed))));
     same_pieces = subst (λ l. IsPermutation l (pieces_of (placed h)))
-        (sym (joined_over_map (λ k. k.pieces) (container_in m (placed h)) (numbers (placed h)) ∙ ap (flat_map (λ k. pieces_in k (placed h))) sound.in_turn))
+        (sym (flat_map-map (λ k. k.pieces) (container_in m (placed h)) (numbers (placed h)) ∙ ap (flat_map (λ k. pieces_in k (placed h))) sound.in_turn))
         (regrouped s.opened (placed h) sound.within);
   }
 
   cost_used : cost_of (grouped m (placed h)) ≡ s.used
   cost_used =
-      sum_over_map (λ k. k.cost) (container_in m (placed h)) (numbers (placed h))
+      fold-map (λ n k. n + k.cost) (container_in m (placed h)) 0 (numbers (placed h))
       ∙ ap (sum_by (λ k. m.cost (class_in k (placed h)))) sound.in_turn
       ∙ sound.used
 
-packing_light : (m : Meaning) → Lawful m → (ks : List Container) → AllByRecursion (AllowedContainer m) ks → weights m (flat_map (λ k. k.pieces) ks) ≤ m.ceiling * cost_of ks
+packing_light : (m : Meaning) → Lawful m → (ks : List Container) → All (AllowedContainer m) ks → weights m (flat_map (λ k. k.pieces) ks) ≤ m.ceiling * cost_of ks
 packing_light m law [] h = omega arith
 packing_light m law (k ∷ ks) h =
-    let here : weights m k.pieces ≤ m.ceiling * k.cost = law.allowed_weighs_at_most k.pieces k.cost h.0.0 h.0.1 in
-    let rest : weights m (flat_map (λ k. k.pieces) ks) ≤ m.ceiling * cost_of ks = packing_light m law ks h.1 in
+    let first = All-head (AllowedContainer m) k ks h in
+    let here : weights m k.pieces ≤ m.ceiling * k.cost = law.allowed_weighs_at_most k.pieces k.cost first.0 first.1 in
+    let rest : weights m (flat_map (λ k. k.pieces) ks) ≤ m.ceiling * cost_of ks = packing_light m law ks (All-tail (AllowedContainer m) k ks h) in
     omega (arith, sum_by-append m.weight k.pieces (flat_map (λ k. k.pieces) ks), ap (λ n. m.ceiling * n) (sum_by-cons (λ k. k.cost) k ks), mul-add m.ceiling k.cost (cost_of ks))
 
 module _ (m : Meaning) (law : Lawful m) (h : List Call) (s : Ledger) (sound : Sound m (placed h) s) where

@@ -1,13 +1,13 @@
 -- What holds of a ledger after the pieces qs were placed. Assumes nothing.
 use Rattle.std.proofs.Common.{◌≡◌, ℕ, ◌+◌, ◌*◌, ◌<◌, ◌≤◌, true, false, cond, List, length, sum_by}
-use Rattle.std.specs.List.{AllByRecursion}
+use Rattle.std.specs.List.{All}
 use Rattle.kinds.specs.declared.piece.Piece.{Piece}
 use Rattle.ledger.specs.declared.Slot.{Slot}
 use Rattle.ledger.specs.declared.Ledger.{Ledger}
 use Rattle.kinds.specs.Kind.{Meaning, Built, level, weights, full_with, fits_after}
 use Rattle.ledger.specs.Rules.{upto, open_in, stands}
 use Rattle.ledger.specs.Season.{Placed, pieces_of, pieces_in, class_in, numbers}
-use Rattle.ledger.proofs.Groups.{push}
+use Rattle.ledger.proofs.Groups.{push, Numbered}
 
 -- what the open containers weigh and cost, by class
 abbrev pub open_weight : Ledger → ℕ → ℕ
@@ -40,9 +40,9 @@ pub record Group (m : Meaning) (qs : List Placed) (n : ℕ) : Type 0 where
 
 pub record Sound (m : Meaning) (qs : List Placed) (s : Ledger) : Type 0 where
   pub bank : length s.bank.slots ≡ 104
-  pub within : AllByRecursion (λ q. (1 ≤ q.container) × (q.container ≤ s.opened)) qs
+  pub within : All (Numbered s.opened) qs
   pub in_turn : numbers qs ≡ upto s.opened
-  pub classes : AllByRecursion (λ q. q.class ≡ class_in q.container qs) qs
+  pub classes : All (λ q. q.class ≡ class_in q.container qs) qs
   pub weight : s.weight ≡ weights m (pieces_of qs)
   pub used : sum_by (λ n. m.cost (class_in n qs)) (upto s.opened) ≡ s.used
   pub groups : (n : ℕ) → 1 ≤ n → n ≤ s.opened → Group m qs n

@@ -1,8 +1,8 @@
 -- One accepted put keeps the ledger sound. Assumes nothing.
 use Rattle.std.proofs.Common.{◌≡◌, ℕ, ◌+◌, ◌-◌, ◌*◌, ◌<◌, ◌≤◌, Bool, true, false, cond, not, List, [], ◌∷◌, ◌++◌, length, set, sum_by, sym, refl, ap, ◌∙◌, subst, inl, inr, mul-add, arith}
-use Rattle.std.specs.List.{AllByRecursion}
+use Rattle.std.specs.List.{All}
 use Rattle.std.proofs.lemmas.List.{length-set, get_or-set_same, get_or-set_other, length_push, map_push}
-use Rattle.std.proofs.ByRecursion.{All-push, All-weaker}
+use Rattle.std.proofs.lemmas.List.Elements.{All-push, All-weaker}
 use Rattle.std.proofs.lemmas.List.Sums.{sum_by_push}
 use Rattle.std.proofs.lemmas.Bool.{cases_eq, ne_eqb, true≢false}
 use Rattle.kinds.specs.declared.piece.Piece.{Piece}
@@ -11,8 +11,9 @@ use Rattle.ledger.specs.declared.Ledger.{Ledger}
 use Rattle.kinds.specs.Kind.{Meaning, Lawful, Admitted, Built, one_more, weights, full_with}
 use Rattle.ledger.specs.Rules.{upto, open_in, stands, nothing}
 use Rattle.ledger.specs.Season.{Placed, pieces_of, pieces_in, class_in}
+use Rattle.ledger.proofs.Bounds.{class_range}
 use Rattle.ledger.proofs.Uptos.{sum_change}
-use Rattle.ledger.proofs.Groups.{push, pieces_push_same, pieces_push_other, class_push_found, class_push_other}
+use Rattle.ledger.proofs.Groups.{push, Numbered, pieces_push_same, pieces_push_other, class_push_found, class_push_other}
 use Rattle.ledger.proofs.Sound.{open_weight, open_cost_in, Tells, Open, Group, Sound, placed_in, Ready}
 
 abbrev taken_by : Meaning → Piece → Slot → Slot
@@ -38,7 +39,7 @@ step_sum U ΣW T X S ΣX C W ΣW' ΣX' w Y Z a b c d = omega arith
 
 module _ (m : Meaning) (law : Lawful m) (qs : List Placed) (s : Ledger) (sound : Sound m qs s) (p : Piece) (admitted : Admitted m p) (t : Slot) (top used : ℕ) (ready : Ready m qs s p t top used) where
   is_class : (1 ≤ m.class p) × (m.class p ≤ 104)
-  is_class = omega (arith, law.admitted_has_class p admitted, law.few_classes)
+  is_class = class_range m law p admitted
 
   slot_same : (x : Slot) → open_in (after_by m s p x top used) (m.class p) ≡ x
   slot_same x = get_or-set_same s.bank.slots (m.class p - 1) x nothing (omega (arith, is_class, sound.bank))
@@ -111,15 +112,11 @@ module _ (m : Meaning) (law : Lawful m) (qs : List Placed) (s : Ledger) (sound :
         standing = o.standing;
       })
 
-  classes_then : AllByRecursion (λ r. r.class ≡ class_in r.container (push qs (placed_in m p t))) (push qs (placed_in m p t))
+  classes_then : All (λ r. r.class ≡ class_in r.container (push qs (placed_in m p t))) (push qs (placed_in m p t))
   classes_then =
-      All-push _ qs (placed_in m p t)
-      (both qs sound.within sound.classes)
+      All-push (λ r. r.class ≡ class_in r.container (push qs (placed_in m p t))) qs (placed_in m p t)
+      (λ i d l. let w = sound.within i d l in sound.classes i d l ∙ sym (class_push_found _ qs (placed_in m p t) (sound.groups _ w.0 w.1).some))
       (sym ready.ours_then)
-    where
-      both : (rs : List Placed) → AllByRecursion (λ r. (1 ≤ r.container) × (r.container ≤ s.opened)) rs → AllByRecursion (λ r. r.class ≡ class_in r.container qs) rs → AllByRecursion (λ r. r.class ≡ class_in r.container (push qs (placed_in m p t))) rs
-      both [] h k = tt
-      both (r ∷ rs) h k = (k.0 ∙ sym (class_push_found r.container qs (placed_in m p t) (sound.groups r.container h.0.0 h.0.1).some), both rs h.1 k.1)
 
   -- the sums over the bank, at any slot x that class p now has
   module _ (x : Slot) where
@@ -142,7 +139,7 @@ module _ (m : Meaning) (law : Lawful m) (qs : List Placed) (s : Ledger) (sound :
     sound_then : (stands x ≡ true → Open m (push qs (placed_in m p t)) top (m.class p) x) → m.unit * m.cost (m.class p) + cond (stands x) x.weight 0 ≤ t.weight + m.weight p + m.unit * cond (stands x) (m.cost (m.class p)) 0 → Sound m (push qs (placed_in m p t)) (after_by m s p x top used)
     sound_then open-then heavy = record {
       bank = length-set s.bank.slots (m.class p - 1) x ∙ sound.bank;
-      within = All-push _ qs (placed_in m p t) (All-weaker (λ r. (1 ≤ r.container) × (r.container ≤ s.opened)) (λ r. (1 ≤ r.container) × (r.container ≤ top)) (λ r h. (h.0, omega (arith, h.1, ready.grows))) qs sound.within) (ready.low, ready.high);
+      within = All-push (Numbered top) qs (placed_in m p t) (All-weaker (Numbered s.opened) (Numbered top) (λ r h. (h.0, omega (arith, h.1, ready.grows))) qs sound.within) (ready.low, ready.high);
       in_turn = ready.in_turn;
       classes = classes_then;
       weight = omega (arith, sound.weight, ap (weights m) (map_push (λ r. r.piece) qs (placed_in m p t)), sum_by_push m.weight (pieces_of qs) p);

@@ -1,8 +1,9 @@
 -- Pieces whose places were told do not overlap. Assumes nothing.
 use Rattle.std.proofs.Common.{◌≡◌, ℕ, ◌+◌, ◌≤◌, List, [], ◌∷◌, ◌++◌, IfOk, None, Ok, Err, Result, sym, refl, ap, ◌∙◌, subst, inl, inr, arith}
-use Rattle.std.specs.List.{AllByRecursion}
+use Rattle.std.specs.List.{All}
 use Rattle.std.proofs.lemmas.List.{flat_map_more, append-nil, map_push}
-use Rattle.std.proofs.ByRecursion.{All-push, All-weaker}
+use Rattle.std.proofs.lemmas.List.Elements.{All-nil, All-push, All-weaker}
+use Rattle.std.proofs.lemmas.List.Quantifiers.{all_pairs_push}
 use Rattle.std.proofs.lemmas.List.Sums.{sum_by_push}
 use Rattle.std.proofs.lemmas.Bool.{cases_eq, cond_both, and_parts}
 use Rattle.kinds.specs.declared.piece.Piece.{Piece}
@@ -14,19 +15,17 @@ use Rattle.ledger.specs.declared.Ledger.{Ledger}
 use Rattle.ledger.specs.Rules.{Call, a_put, a_report, Ran, then_put, stands, found, fits_found, goes_on, taking, put_answer, put_ledger}
 use Rattle.ledger.specs.Season.{Placed, placed_by, placed, pieces_in}
 use Rattle.ledger.specs.Places.{place_in, Noted, silent, telling, call_of, calls, level_in, AtLevels, none_told, then_silent, then_told, RanLaid, Stretch, covered, stretch_of, stretches, Apart, AllApart, LaidSeason}
-use Rattle.ledger.proofs.Groups.{pieces_push_same, pieces_push_other, pieces_none}
+use Rattle.ledger.proofs.Bounds.{class_range}
+use Rattle.ledger.proofs.Groups.{placed_then, placed_same, pieces_push_same, pieces_push_other}
 use Rattle.ledger.proofs.Sound.{Sound}
-use Rattle.ledger.proofs.Seasons.{Answered, answered, ran_sound}
+use Rattle.ledger.proofs.Seasons.{none_in, Answered, answered, ran_sound}
 
 -- Levels along the calls
-
-placed_then : (h : List Call) (c : Call) → placed (h ++ (c ∷ [])) ≡ placed h ++ placed_by c
-placed_then h c = sym (flat_map_more placed_by [] h c)
 
 module _ (m : Meaning) (k : ℕ) (h : List Call) where
   -- a call that places nothing
   level_same : (c : Call) → placed_by c ≡ [] → level_in m k (h ++ (c ∷ [])) ≡ level_in m k h
-  level_same c e = ap (λ l. level m (pieces_in k l)) (placed_then h c ∙ ap (λ l. placed h ++ l) e ∙ append-nil (placed h))
+  level_same c e = ap (λ l. level m (pieces_in k l)) (placed_same h c e)
 
   -- a piece in container k, and one in another
   level_more : (p : Piece) (a : Placing) → a.container ≡ k → level_in m k (h ++ (a_put p (Ok a) ∷ [])) ≡ level_in m k h + m.load p
@@ -63,29 +62,25 @@ covers_none m (a_report r) = refl
 covers_none m (a_put p (Err r)) = refl
 covers_none m (a_put p (Ok a)) = refl
 
-apart_push : (ts : List Stretch) (b : Stretch) → AllApart ts → AllByRecursion (λ t. Apart t b) ts → AllApart (ts ++ (b ∷ []))
-apart_push [] b h k = (tt, tt)
-apart_push (t ∷ ts) b h k = (All-push (Apart t) ts b h.0 k.0, apart_push ts b h.1 k.1)
-
 -- within the level of its container, after the calls h
 abbrev Inside : Meaning → List Call → Stretch → Type 0
 Inside m h t = t.to ≤ level_in m t.container h
 
 -- what was inside stays so
-inside_then : (m : Meaning) (n : List Noted) (c : Noted) → AllByRecursion (Inside m (calls n)) (stretches m n) → AllByRecursion (Inside m (calls (n ++ (c ∷ [])))) (stretches m n)
+inside_then : (m : Meaning) (n : List Noted) (c : Noted) → All (Inside m (calls n)) (stretches m n) → All (Inside m (calls (n ++ (c ∷ [])))) (stretches m n)
 inside_then m n c h =
-    subst (λ l. AllByRecursion (Inside m l) (stretches m n)) (sym (calls_then n c))
+    subst (λ l. All (Inside m l) (stretches m n)) (sym (calls_then n c))
     (All-weaker (Inside m (calls n)) (Inside m (calls n ++ (c.call ∷ []))) (λ t i. omega (arith, i, level_grows m t.container (calls n) c.call)) (stretches m n) h)
 
 pub laid_season : (m : Meaning) {n : List Noted} → AtLevels m n → LaidSeason m n
-laid_season m none_told = record { no_overlap = tt; within_level = tt }
+laid_season m none_told = record { no_overlap = λ i j d a b. absurd (omega arith); within_level = All-nil (Inside m []) }
 laid_season m (then_silent {n = n} r c) =
     let old : LaidSeason m n = laid_season m r in
     let x : Noted = silent c in
     let same : stretches m (n ++ (x ∷ [])) ≡ stretches m n = stretches_then m n x ∙ ap (λ l. stretches m n ++ l) (covers_none m c) ∙ append-nil (stretches m n) in
     record {
       no_overlap = subst AllApart (sym same) old.no_overlap;
-      within_level = subst (AllByRecursion (Inside m (calls (n ++ (x ∷ []))))) (sym same) (inside_then m n x old.within_level);
+      within_level = subst (All (Inside m (calls (n ++ (x ∷ []))))) (sym same) (inside_then m n x old.within_level);
     }
 laid_season m (then_told {n = n} r p a) =
     let old : LaidSeason m n = laid_season m r in
@@ -93,11 +88,11 @@ laid_season m (then_told {n = n} r p a) =
     let x : Noted = telling at p (Ok a) in
     let b : Stretch = record { container = a.container; from = at; to = at + m.load p } in
     let more : stretches m (n ++ (x ∷ [])) ≡ stretches m n ++ (b ∷ []) = stretches_then m n x in
-    let front : AllByRecursion (λ t. Apart t b) (stretches m n) = All-weaker (Inside m (calls n)) (λ t. Apart t b) (λ t i e. inl (subst (λ k. t.to ≤ level_in m k (calls n)) e i)) (stretches m n) old.within_level in
+    let front : All (λ t. Apart t b) (stretches m n) = All-weaker (Inside m (calls n)) (λ t. Apart t b) (λ t i e. inl (subst (λ k. t.to ≤ level_in m k (calls n)) e i)) (stretches m n) old.within_level in
     let here : Inside m (calls (n ++ (x ∷ []))) b = subst (λ l. Inside m l b) (sym (calls_then n x)) (omega (arith, level_more m a.container (calls n) p a refl)) in
     record {
-      no_overlap = subst AllApart (sym more) (apart_push (stretches m n) b old.no_overlap front);
-      within_level = subst (AllByRecursion (Inside m (calls (n ++ (x ∷ []))))) (sym more) (All-push _ (stretches m n) b (inside_then m n x old.within_level) here);
+      no_overlap = subst AllApart (sym more) (all_pairs_push Apart (stretches m n) b old.no_overlap front);
+      within_level = subst (All (Inside m (calls (n ++ (x ∷ []))))) (sym more) (All-push (Inside m (calls (n ++ (x ∷ [])))) (stretches m n) b (inside_then m n x old.within_level) here);
     }
 
 -- any call that tells no place, as a step of such a season
@@ -109,11 +104,10 @@ then_call m n c s ran at = (subst (λ h. Ran m h s) (sym (calls_then n (silent c
 module _ (m : Meaning) (law : Lawful m) (qs : List Placed) (s : Ledger) (sound : Sound m qs s) (p : Piece) (admitted : Admitted m p) where
   taking_at_level : (taking m s p).level ≡ level m (pieces_in (taking m s p).container qs)
   taking_at_level =
-      let range = law.admitted_has_class p admitted in
-      let not_yet : AllByRecursion (λ q. q.container ≡ s.opened + 1 → ⊥) qs = All-weaker (λ q. (1 ≤ q.container) × (q.container ≤ s.opened)) _ (λ q h e. omega (arith, h.1, e)) qs sound.within in
+      let range = class_range m law p admitted in
       cond_both (goes_on m s p) (found m s p) _ (λ (t : Slot). t.level ≡ level m (pieces_in t.container qs))
-      (λ e. (sound.opens (m.class p) range.0 (omega (arith, range.1, law.few_classes)) (and_parts (stands (found m s p)) (fits_found m s p) e).0).tells.level)
-      (λ e. sym (ap (level m) (pieces_none (s.opened + 1) qs not_yet)))
+      (λ e. (sound.opens (m.class p) range.0 range.1 (and_parts (stands (found m s p)) (fits_found m s p) e).0).tells.level)
+      (λ e. sym (ap (level m) (none_in m law qs s sound p admitted)))
 
 -- by which the place that a put tells is the level of its container, as the calls before filled it
 pub told_level : (m : Meaning) → Lawful m → (h : List Call) (s : Ledger) → Ran m h s → (p : Piece) (a : Result Placing PutRefusal) → Answered m s p a → IfOk a (λ x. place_in m s p ≡ level_in m x.container h)

@@ -1,24 +1,17 @@
 -- Sums and lists over 1, 2, .. n, and what one change among them makes. Assumes nothing.
-use Rattle.std.proofs.Common.{◌≡◌, ℕ, zero, suc, ◌+◌, ◌<◌, ◌≤◌, List, [], ◌∷◌, ◌++◌, map, sum_by, sym, refl, ap, ◌∙◌, subst, inl, inr, arith}
-use Rattle.std.specs.List.{flat_map, AllByRecursion}
+use Rattle.std.proofs.Common.{◌≡◌, ℕ, zero, suc, ◌+◌, ◌<◌, ◌≤◌, List, [], ◌∷◌, ◌++◌, sum_by, sym, refl, ap, ◌∙◌, inl, inr, arith}
+use Rattle.std.specs.List.{flat_map, All}
 use Rattle.std.specs.List.Sorted.{IsPermutation}
 use Rattle.std.proofs.lemmas.List.{flat_map_more, append-nil}
-use Rattle.std.proofs.ByRecursion.{All-push}
-use Rattle.std.proofs.lemmas.List.Sums.{sum_by-cons, sum_by_push}
-use Rattle.std.proofs.lemmas.List.Sorted.{IsPermutation-refl, IsPermutation-sym, IsPermutation-trans, IsPermutation-cons, IsPermutation-swap}
+use Rattle.std.proofs.lemmas.List.Elements.{All-nil, All-push}
+use Rattle.std.proofs.lemmas.List.Sums.{sum_by_push}
+use Rattle.std.proofs.lemmas.List.Sorted.{IsPermutation-middle, IsPermutation-append_left}
 use Rattle.std.proofs.lemmas.Bool.{cases_eq, cases_lt}
 use Rattle.ledger.specs.Rules.{upto}
 
-pub all_upto : (P : ℕ → Type 0) (n : ℕ) → ((k : ℕ) → 1 ≤ k → k ≤ n → P k) → AllByRecursion P (upto n)
-all_upto P zero h = tt
+pub all_upto : (P : ℕ → Type 0) (n : ℕ) → ((k : ℕ) → 1 ≤ k → k ≤ n → P k) → All P (upto n)
+all_upto P zero h = All-nil P
 all_upto P (suc n) h = All-push P (upto n) (suc n) (all_upto P n (λ k a b. h k a (omega arith))) (h (suc n) (omega arith) (omega arith))
-
-pub sum_same : (f g : ℕ → ℕ) (n : ℕ) → ((k : ℕ) → 1 ≤ k → k ≤ n → f k ≡ g k) → sum_by f (upto n) ≡ sum_by g (upto n)
-sum_same f g zero h = refl
-sum_same f g (suc n) h =
-    let rest : sum_by f (upto n) ≡ sum_by g (upto n) = sum_same f g n (λ k a b. h k a (omega arith)) in
-    let last : f (suc n) ≡ g (suc n) = h (suc n) (omega arith) (omega arith) in
-    omega (arith, sum_by_push f (upto n) (suc n), sum_by_push g (upto n) (suc n))
 
 pub sum_le : (f g : ℕ → ℕ) (n : ℕ) → ((k : ℕ) → 1 ≤ k → k ≤ n → f k ≤ g k) → sum_by f (upto n) ≤ sum_by g (upto n)
 sum_le f g zero h = omega arith
@@ -26,6 +19,9 @@ sum_le f g (suc n) h =
     let rest : sum_by f (upto n) ≤ sum_by g (upto n) = sum_le f g n (λ k a b. h k a (omega arith)) in
     let last : f (suc n) ≤ g (suc n) = h (suc n) (omega arith) (omega arith) in
     omega (arith, sum_by_push f (upto n) (suc n), sum_by_push g (upto n) (suc n))
+
+pub sum_same : (f g : ℕ → ℕ) (n : ℕ) → ((k : ℕ) → 1 ≤ k → k ≤ n → f k ≡ g k) → sum_by f (upto n) ≡ sum_by g (upto n)
+sum_same f g n h = omega (arith, sum_le f g n (λ k a b. omega (arith, h k a b)), sum_le g f n (λ k a b. omega (arith, h k a b)))
 
 -- f and g differ at most at k
 pub sum_change : (f g : ℕ → ℕ) (n k : ℕ) → 1 ≤ k → k ≤ n → ((j : ℕ) → 1 ≤ j → j ≤ n → (j ≡ k → ⊥) → g j ≡ f j) → sum_by g (upto n) + f k ≡ sum_by f (upto n) + g k
@@ -57,29 +53,6 @@ sum_past f m (suc n) l h =
     ]
 
 module _ {X : Type 0} where
-  pub sum_over_map : {Y : Type 0} (g : Y → ℕ) (f : X → Y) (xs : List X) → sum_by g (map f xs) ≡ sum_by (λ x. g (f x)) xs
-  sum_over_map g f [] = refl
-  sum_over_map g f (x ∷ xs) = sum_by-cons g (f x) (map f xs) ∙ ap (λ n. g (f x) + n) (sum_over_map g f xs) ∙ sym (sum_by-cons (λ y. g (f y)) x xs)
-
-  pub joined_over_map : {Y A : Type 0} (g : Y → List A) (f : X → Y) (xs : List X) → flat_map g (map f xs) ≡ flat_map (λ x. g (f x)) xs
-  joined_over_map g f [] = refl
-  joined_over_map g f (x ∷ xs) = ap (λ l. g (f x) ++ l) (joined_over_map g f xs)
-
-  -- the lists in another order
-  swap_two : (a b : X) (xs : List X) → IsPermutation (a ∷ b ∷ xs) (b ∷ a ∷ xs)
-  swap_two a b xs = IsPermutation-swap (a ∷ b ∷ xs) (b ∷ a ∷ xs) 0 1 (omega arith) (omega arith) refl
-
-  pub shuffled_middle : (xs : List X) (a : X) (ys : List X) → IsPermutation (xs ++ (a ∷ ys)) (a ∷ (xs ++ ys))
-  shuffled_middle [] a ys = IsPermutation-refl (a ∷ ys)
-  shuffled_middle (x ∷ xs) a ys =
-      IsPermutation-trans _ _ _ (IsPermutation-cons x _ _ (shuffled_middle xs a ys)) (swap_two x a (xs ++ ys))
-
-  pub shuffled_append : (xs ys zs : List X) → IsPermutation xs ys → IsPermutation (xs ++ zs) (ys ++ zs)
-  shuffled_append xs ys [] h = subst (λ l. IsPermutation l (ys ++ [])) (sym (append-nil xs)) (subst (IsPermutation xs) (sym (append-nil ys)) h)
-  shuffled_append xs ys (z ∷ zs) h =
-      IsPermutation-trans _ _ _ (shuffled_middle xs z zs)
-      (IsPermutation-trans _ _ _ (IsPermutation-cons z _ _ (shuffled_append xs ys zs h)) (IsPermutation-sym _ _ (shuffled_middle ys z zs)))
-
   joined_last : (F : ℕ → List X) (n : ℕ) → flat_map F (upto (suc n)) ≡ flat_map F (upto n) ++ F (suc n)
   joined_last F n = sym (flat_map_more F [] (upto n) (suc n))
 
@@ -100,22 +73,11 @@ module _ {X : Type 0} where
   pub joined_change : (F G : ℕ → List X) (n k : ℕ) (x : X) → 1 ≤ k → k ≤ n → G k ≡ x ∷ F k → ((j : ℕ) → (j ≡ k → ⊥) → G j ≡ F j) → IsPermutation (flat_map G (upto n)) (x ∷ flat_map F (upto n))
   joined_change F G zero k x a b e h = absurd (omega arith)
   joined_change F G (suc n) k x a b e h =
-      let P : List X → List X → Type 0 = λ l r. IsPermutation l (x ∷ r) in
       elim (cases_eq (suc n) k) [
         | inl i ↦
             let rest : flat_map G (upto n) ≡ flat_map F (upto n) = joined_same G F n (λ j d. h j (λ s. omega arith)) in
             let last : G (suc n) ≡ x ∷ F (suc n) = ap G i ∙ e ∙ ap (λ j. x ∷ F j) (sym i) in
-            let f = joined_last F n in
-            let g = joined_last G n in
-            let left : flat_map F (upto n) ++ (x ∷ F (suc n)) ≡ flat_map G (upto (suc n)) = cc in
-            subst (λ l. IsPermutation l (x ∷ flat_map F (upto (suc n)))) left
-            (subst (λ r. IsPermutation (flat_map F (upto n) ++ (x ∷ F (suc n))) (x ∷ r)) (sym f) (shuffled_middle (flat_map F (upto n)) x (F (suc n))))
+            rw (joined_last G n, joined_last F n, rest, last) (IsPermutation-middle (flat_map F (upto n)) x (F (suc n)))
         | inr ne ↦
-            let rest = joined_change F G n k x a (omega arith) e h in
-            let last : G (suc n) ≡ F (suc n) = h (suc n) ne in
-            let f = joined_last F n in
-            let g = joined_last G n in
-            let left : flat_map G (upto n) ++ F (suc n) ≡ flat_map G (upto (suc n)) = cc in
-            subst (λ l. IsPermutation l (x ∷ flat_map F (upto (suc n)))) left
-            (subst (λ r. IsPermutation (flat_map G (upto n) ++ F (suc n)) (x ∷ r)) (sym f) (shuffled_append _ _ (F (suc n)) rest))
+            rw (joined_last G n, joined_last F n, h (suc n) ne) (IsPermutation-append_left (F (suc n)) _ _ (joined_change F G n k x a (omega arith) e h))
       ]

@@ -1,6 +1,5 @@
 -- Where the pieces of a season lie in their containers, by the calls and their answers. Assumes nothing.
-use Rattle.std.specs.Prelude.{◌≡◌, ℕ, ◌+◌, ◌≤◌, ◌⊎◌, List, [], ◌∷◌, ◌++◌, map, Some, None, Ok, Err, Option, Result}
-use Rattle.std.specs.List.{flat_map, AllByRecursion}
+use Rattle.std.specs.Prelude.{◌≡◌, ℕ, ◌+◌, ◌≤◌, ◌⊎◌, List, [], ◌∷◌, ◌++◌, map, Some, None, Ok, Err, Option, Result, flat_map, All, AllPairs}
 use Rattle.kinds.specs.declared.piece.Piece.{Piece}
 use Rattle.refusals.specs.declared.PutRefusal.{PutRefusal}
 use Rattle.kinds.specs.Kind.{Meaning, level}
@@ -84,12 +83,11 @@ Apart a b = a.container ≡ b.container → (a.to ≤ b.from) ⊎ (b.to ≤ a.fr
 
 -- each two of a list
 abbrev pub AllApart : List Stretch → Type 0
-AllApart [] = Unit {0}
-AllApart (t ∷ ts) = AllByRecursion (Apart t) ts × AllApart ts
+AllApart ts = AllPairs Apart ts
 
 -- What a season in which some puts told places owes.
 pub record LaidSeason (m : Meaning) (n : List Noted) : Type 0 where
   -- pieces of one container do not overlap
   pub no_overlap : AllApart (stretches m n)
   -- none reaches past the level of its container
-  pub within_level : AllByRecursion (λ t. t.to ≤ level_in m t.container (calls n)) (stretches m n)
+  pub within_level : All (λ t. t.to ≤ level_in m t.container (calls n)) (stretches m n)

@@ -1,6 +1,5 @@
 -- What a season's calls and answers owe their reader. Assumes nothing.
-use Rattle.std.specs.Prelude.{◌≡◌, ℕ, ◌+◌, ◌*◌, ◌≤◌, true, cond, not, List, [], ◌∷◌, map, Ok, Err, sum_by, filter, ◌==◌, nat_eq}
-use Rattle.std.specs.List.{flat_map, AllByRecursion}
+use Rattle.std.specs.Prelude.{◌≡◌, ℕ, ◌+◌, ◌*◌, ◌≤◌, true, cond, not, List, [], ◌∷◌, map, Ok, Err, sum_by, filter, flat_map, All, ◌==◌, nat_eq}
 use Rattle.std.specs.List.Sorted.{IsPermutation}
 use Rattle.kinds.specs.declared.piece.Piece.{Piece}
 use Rattle.ledger.specs.declared.Report.{Report}
@@ -25,7 +24,7 @@ cost_of ks = sum_by (λ k. k.cost) ks
 
 -- allowed containers whose pieces, joined, are those pieces in some order
 pub record AllowedPacking (m : Meaning) (ps : List Piece) (ks : List Container) : Type 0 where
-  pub each_allowed : AllByRecursion (AllowedContainer m) ks
+  pub each_allowed : All (AllowedContainer m) ks
   pub same_pieces : IsPermutation (flat_map (λ k. k.pieces) ks) ps
 
 -- what one open container in every class would cost, at standing costs
@@ -79,7 +78,7 @@ grouped m qs = map (container_in m qs) (numbers qs)
 -- What the calls h, and a report r made after them, owe over the kind m
 pub record Season (m : Meaning) (h : List Call) (r : Report) : Type 0 where
   -- grouped by answered number, an allowed packing that costs what is reported
-  pub one_class : AllByRecursion (λ q. q.class ≡ class_in q.container (placed h)) (placed h)
+  pub one_class : All (λ q. q.class ≡ class_in q.container (placed h)) (placed h)
   pub packed : AllowedPacking m (pieces_of (placed h)) (grouped m (placed h))
   pub cost_used : cost_of (grouped m (placed h)) ≡ r.used
   -- no other plan stays below the floor

@@ -4,6 +4,7 @@
 ghost use Rattle.worked.specs.Worked.{Worked};
 
 // The worked cases follow from the definitions that all contracts cite.
+#[tactic(auto, unfolding(kinds::specs::Strips::rank))]
 pub fn worked_cases() -> u8
     ensures { Worked }
 {
