@@ -1,0 +1,238 @@
+// A sort of line: its tag, the widths of its fields, and a line as numbers and back.
+ghost use Rattle.std.specs.Prelude.{◌≡◌, ℕ, ◌<◌, ◌≤◌, List, All, length, refl};
+ghost use Rattle.std.proofs.Common.{lit<, lit≤};
+ghost use Rattle.archive.specs.declared.line.Line.{Line};
+ghost use Rattle.archive.specs.Fields.{Fit};
+ghost use Rattle.archive.specs.Lines.{Field, place_fields, closing_fields, heading_fields, tag, values as values_in, widths_by, widths_of, values_of};
+
+use crate::line::{ClosingLine, HeadingLine, Line, PlaceLine};
+
+// Lines of N fields, which bits of the map stand for, from bit 0 up.
+pub(crate) trait Sort<const N: usize>: Into<Line> {
+    ghost TAG: { ℕ };
+
+    ghost WIDTHS: { List ℕ };
+
+    ghost fields: { List (Field Self) };
+
+    // the top two bits of the map
+    const TAG: u16;
+
+    // in bytes
+    const WIDTHS: [u8; N];
+
+    fn values(&self) -> [u64; N]
+        ensures value { result ≡ values_of fields self.now }
+        ensures fit { Fit WIDTHS (values_of fields self.now) };
+
+    fn from_values(values: &[u64; N]) -> Self
+        requires { Fit WIDTHS values.now }
+        ensures { values_of fields result ≡ values.now };
+
+    ghost known: { TAG < 3 };
+
+    ghost few: { N ≤ 14 };
+
+    ghost many: { length WIDTHS ≡ N };
+
+    ghost narrow: { All (λ w. w ≤ 8) WIDTHS };
+
+    ghost widths: { widths_by TAG ≡ WIDTHS };
+
+    ghost is_line: { (x : Self) (l : Line) → Self.converts x l → (tag l ≡ TAG) × (values_in l ≡ values_of fields x) };
+}
+
+impl Sort<6> for PlaceLine {
+    ghost use Rattle.archive.specs.Sorts.{narrow_place, place_is};
+
+    ghost TAG = { 0 };
+
+    ghost WIDTHS = { widths_of place_fields };
+
+    ghost fields = { place_fields };
+
+    ghost known = { lit< tt };
+
+    ghost few = { lit≤ tt };
+
+    ghost many = { refl };
+
+    ghost narrow = { narrow_place };
+
+    ghost widths = { refl };
+
+    ghost is_line = { place_is };
+
+    const TAG: u16 = 0;
+
+    const WIDTHS: [u8; 6] = [4, 4, 4, 1, 4, 1];
+
+    fn values(&self) -> [u64; 6] {
+        let PlaceLine {
+            number,
+            first,
+            second,
+            finish,
+            container,
+            class,
+        } = *self;
+        [
+            number as u64,
+            first as u64,
+            second as u64,
+            finish as u64,
+            container as u64,
+            class as u64,
+        ]
+    }
+
+    fn from_values(values: &[u64; 6]) -> PlaceLine {
+        let [number, first, second, finish, container, class] = *values;
+        PlaceLine {
+            number: number as u32,
+            first: first as u32,
+            second: second as u32,
+            finish: finish as u8,
+            container: container as u32,
+            class: class as u8,
+        }
+    }
+}
+
+impl Sort<7> for ClosingLine {
+    ghost use Rattle.archive.specs.Sorts.{narrow_closing, closing_is};
+
+    ghost TAG = { 1 };
+
+    ghost WIDTHS = { widths_of closing_fields };
+
+    ghost fields = { closing_fields };
+
+    ghost known = { lit< tt };
+
+    ghost few = { lit≤ tt };
+
+    ghost many = { refl };
+
+    ghost narrow = { narrow_closing };
+
+    ghost widths = { refl };
+
+    ghost is_line = { closing_is };
+
+    const TAG: u16 = 1;
+
+    const WIDTHS: [u8; 7] = [4, 1, 4, 4, 8, 8, 8];
+
+    fn values(&self) -> [u64; 7] {
+        let ClosingLine {
+            container,
+            class,
+            pieces,
+            level,
+            weight,
+            used,
+            floor,
+        } = *self;
+        [
+            container as u64,
+            class as u64,
+            pieces as u64,
+            level as u64,
+            // the cast of a u64 says that it is below 2 ^ 64
+            weight as u64,
+            used as u64,
+            floor as u64,
+        ]
+    }
+
+    fn from_values(values: &[u64; 7]) -> ClosingLine {
+        let [container, class, pieces, level, weight, used, floor] = *values;
+        ClosingLine {
+            container: container as u32,
+            class: class as u8,
+            pieces: pieces as u32,
+            level: level as u32,
+            weight,
+            used,
+            floor,
+        }
+    }
+}
+
+impl Sort<9> for HeadingLine {
+    ghost use Rattle.archive.specs.Sorts.{narrow_heading, heading_is};
+
+    ghost TAG = { 2 };
+
+    ghost WIDTHS = { widths_of heading_fields };
+
+    ghost fields = { heading_fields };
+
+    ghost known = { lit< tt };
+
+    ghost few = { lit≤ tt };
+
+    ghost many = { refl };
+
+    ghost narrow = { narrow_heading };
+
+    ghost widths = { refl };
+
+    ghost is_line = { heading_is };
+
+    const TAG: u16 = 2;
+
+    const WIDTHS: [u8; 9] = [1, 4, 1, 1, 2, 1, 8, 8, 4];
+
+    fn values(&self) -> [u64; 9] {
+        let HeadingLine {
+            code,
+            capacity,
+            k,
+            limit,
+            allowance,
+            finishes,
+            unit,
+            ceiling,
+            standing,
+        } = *self;
+        [
+            code as u64,
+            capacity as u64,
+            k as u64,
+            limit as u64,
+            allowance as u64,
+            finishes as u64,
+            // the cast of a u64 says that it is below 2 ^ 64
+            unit as u64,
+            ceiling as u64,
+            standing as u64,
+        ]
+    }
+
+    fn from_values(values: &[u64; 9]) -> HeadingLine {
+        let [
+            code,
+            capacity,
+            k,
+            limit,
+            allowance,
+            finishes,
+            unit,
+            ceiling,
+            standing,
+        ] = *values;
+        HeadingLine {
+            code: code as u8,
+            capacity: capacity as u32,
+            k: k as u8,
+            limit: limit as u8,
+            allowance: allowance as u16,
+            finishes: finishes as u8,
+            unit,
+            ceiling,
+            standing: standing as u32,
+        }
+    }
+}
