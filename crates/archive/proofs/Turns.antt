@@ -1,9 +1,8 @@
 -- What the loops of the reader step by, and how its answers come about. Assumes nothing.
-use Rattle.std.proofs.Common.{◌≡◌, ℕ, ◌+◌, ◌*◌, ◌/◌, ◌%◌, ◌^◌, ◌<◌, ◌≤◌, Bool, true, false, cond, eqb, leb, ltb, List, [], ◌∷◌, ◌++◌, length, get_or, take, drop, set, IfOk, Ok, Err, Result, sym, refl, ap, ◌∙◌, ⊎_elim, subst, pow-suc, add-one, arith, length-drop}
-use native.Mathlib.Nat.{pow-le-pow_right, div-eq_of_lt, mod-lt, div-add-mod'}
+use Rattle.std.proofs.Common.{◌≡◌, ℕ, ◌+◌, ◌*◌, ◌/◌, ◌%◌, ◌^◌, ◌<◌, ◌≤◌, Bool, true, false, cond, eqb, leb, ltb, List, [], ◌∷◌, ◌++◌, length, get_or, take, drop, set, IfOk, Ok, Err, Result, sym, refl, ap, ◌∙◌, ⊎_elim, subst, arith, length-drop}
+use native.Mathlib.Nat.{div-eq_of_lt, mod-lt, div-add-mod'}
 use Rattle.std.proofs.lemmas.Nat.{pow_pos}
 use Rattle.std.specs.Int.Digits.{number_from_digits}
-use Rattle.std.proofs.lemmas.Int.Digits.{number_more}
 use Rattle.std.proofs.lemmas.List.{take_more, take_more_set, take_all, drop_more, drop-drop, drop_all}
 use Rattle.std.proofs.ByRecursion.{All-from_get_or, All-drop}
 use Rattle.std.proofs.lemmas.Bool.{le-leb, lt-leb, cond-true, cond-false, le-ltb, lt-ltb, ltb-false, cases_eq, cases_lt}
@@ -14,18 +13,6 @@ use Rattle.archive.specs.Lines.{Bytes, widths_by, Parsed, of_sort, parsed, map_o
 use Rattle.archive.proofs.Codec.{read_written}
 use Rattle.archive.specs.declared.line.Line.{Line}
 use Rattle.archive.proofs.Reading.{absent, present, not_refused, fields_told}
-
--- one more byte of a number
-pub sum_below : (s i b : ℕ) → s < 256 ^ i → b < 256 → s * 256 + b < 256 ^ (i + 1)
-sum_below s i b h k = rw (add-one, pow-suc) (omega arith)
-
-pub sum_fits : (s i b : ℕ) → s < 256 ^ i → i < 8 → b < 256 → s * 256 + b < 2 ^ 64
-sum_fits s i b h few k =
-    let top : i + 1 ≤ 8 = omega arith in
-    omega (arith, sum_below s i b h k, pow-le-pow_right {n = 256} (omega arith) top)
-
-pub sum_more : (bs : List ℕ) (i s : ℕ) → i < length bs → s ≡ number_from_digits 256 (take i bs) → s * 256 + get_or bs i 0 ≡ number_from_digits 256 (take (i + 1) bs)
-sum_more bs i s h e = omega (arith, number_more 256 bs i h, e)
 
 -- two tests that refuse, before one answer and before another
 refused_same : {X Y E : Type 0} (a b : Bool) (x y : E) (v : X) (r : Result Y E) (e : E) → cond a (Err x) (cond b (Err y) (Ok v)) ≡ Err e → cond a (Err x) (cond b (Err y) r) ≡ Err e

@@ -19,9 +19,9 @@ pub fn read(bytes: &[u8]) -> Result<(Line, usize), ReadRefusal>
     let map = number(map);
     let bits = (map % 16384) as u16;
     match map / 16384 {
-        0 => read_sort::<6, PlaceLine>(bytes, bits),
-        1 => read_sort::<7, ClosingLine>(bytes, bits),
-        2 => read_sort::<9, HeadingLine>(bytes, bits),
+        0 => read_sort::<_, PlaceLine>(bytes, bits),
+        1 => read_sort::<_, ClosingLine>(bytes, bits),
+        2 => read_sort::<_, HeadingLine>(bytes, bits),
         _ => Err(ReadRefusal::NoField { at: 0 }),
     }
 }

@@ -1,6 +1,6 @@
 // A sort of line: its tag, the widths of its fields, and a line as numbers and back.
 ghost use Rattle.std.specs.Prelude.{◌≡◌, ℕ, ◌<◌, ◌≤◌, List, All, length, refl};
-ghost use Rattle.std.proofs.Common.{lit<, lit≤};
+ghost use Rattle.std.proofs.Common.{ap, lit<, lit≤};
 ghost use Rattle.archive.specs.declared.line.Line.{Line};
 ghost use Rattle.archive.specs.Fields.{Fit};
 ghost use Rattle.archive.specs.Lines.{Field, place_fields, closing_fields, heading_fields, tag, values as values_in, widths_by, widths_of, values_of};
@@ -43,7 +43,7 @@ pub(crate) trait Sort<const N: usize>: Into<Line> {
 }
 
 impl Sort<6> for PlaceLine {
-    ghost use Rattle.archive.specs.Sorts.{narrow_place, place_is};
+    ghost use Rattle.archive.specs.Sorts.{narrow_place};
 
     ghost TAG = { 0 };
 
@@ -61,28 +61,20 @@ impl Sort<6> for PlaceLine {
 
     ghost widths = { refl };
 
-    ghost is_line = { place_is };
+    ghost is_line = { λ _ _ e. (ap tag e, ap values_in e) };
 
     const TAG: u16 = 0;
 
     const WIDTHS: [u8; 6] = [4, 4, 4, 1, 4, 1];
 
     fn values(&self) -> [u64; 6] {
-        let PlaceLine {
-            number,
-            first,
-            second,
-            finish,
-            container,
-            class,
-        } = *self;
         [
-            number as u64,
-            first as u64,
-            second as u64,
-            finish as u64,
-            container as u64,
-            class as u64,
+            self.number as u64,
+            self.first as u64,
+            self.second as u64,
+            self.finish as u64,
+            self.container as u64,
+            self.class as u64,
         ]
     }
 
@@ -100,7 +92,7 @@ impl Sort<6> for PlaceLine {
 }
 
 impl Sort<7> for ClosingLine {
-    ghost use Rattle.archive.specs.Sorts.{narrow_closing, closing_is};
+    ghost use Rattle.archive.specs.Sorts.{narrow_closing};
 
     ghost TAG = { 1 };
 
@@ -118,31 +110,22 @@ impl Sort<7> for ClosingLine {
 
     ghost widths = { refl };
 
-    ghost is_line = { closing_is };
+    ghost is_line = { λ _ _ e. (ap tag e, ap values_in e) };
 
     const TAG: u16 = 1;
 
     const WIDTHS: [u8; 7] = [4, 1, 4, 4, 8, 8, 8];
 
     fn values(&self) -> [u64; 7] {
-        let ClosingLine {
-            container,
-            class,
-            pieces,
-            level,
-            weight,
-            used,
-            floor,
-        } = *self;
         [
-            container as u64,
-            class as u64,
-            pieces as u64,
-            level as u64,
-            // the cast of a u64 says that it is below 2 ^ 64
-            weight as u64,
-            used as u64,
-            floor as u64,
+            self.container as u64,
+            self.class as u64,
+            self.pieces as u64,
+            self.level as u64,
+            // a call, so that the check knows the number to be below 2 ^ 64
+            u64::from(self.weight),
+            u64::from(self.used),
+            u64::from(self.floor),
         ]
     }
 
@@ -161,7 +144,7 @@ impl Sort<7> for ClosingLine {
 }
 
 impl Sort<9> for HeadingLine {
-    ghost use Rattle.archive.specs.Sorts.{narrow_heading, heading_is};
+    ghost use Rattle.archive.specs.Sorts.{narrow_heading};
 
     ghost TAG = { 2 };
 
@@ -179,35 +162,24 @@ impl Sort<9> for HeadingLine {
 
     ghost widths = { refl };
 
-    ghost is_line = { heading_is };
+    ghost is_line = { λ _ _ e. (ap tag e, ap values_in e) };
 
     const TAG: u16 = 2;
 
     const WIDTHS: [u8; 9] = [1, 4, 1, 1, 2, 1, 8, 8, 4];
 
     fn values(&self) -> [u64; 9] {
-        let HeadingLine {
-            code,
-            capacity,
-            k,
-            limit,
-            allowance,
-            finishes,
-            unit,
-            ceiling,
-            standing,
-        } = *self;
         [
-            code as u64,
-            capacity as u64,
-            k as u64,
-            limit as u64,
-            allowance as u64,
-            finishes as u64,
-            // the cast of a u64 says that it is below 2 ^ 64
-            unit as u64,
-            ceiling as u64,
-            standing as u64,
+            self.code as u64,
+            self.capacity as u64,
+            self.k as u64,
+            self.limit as u64,
+            self.allowance as u64,
+            self.finishes as u64,
+            // a call, so that the check knows the number to be below 2 ^ 64
+            u64::from(self.unit),
+            u64::from(self.ceiling),
+            self.standing as u64,
         ]
     }
 

@@ -9,6 +9,7 @@ use refusals::WriteRefusal;
 
 // Stores the line at the front of the bytes, and tells its length. Bytes behind it stay, and where
 // there is no room for it all of them do.
+#[tactic(auto, using(crate::proofs::Numbers::mask_bit))]
 pub fn write(line: &Line, bytes: &mut [u8]) -> Result<usize, WriteRefusal>
     ensures value { result ≡ write_answer (encode line.now) bytes.old }
     ensures bytes { bytes.new ≡ write_bytes (encode line.now) bytes.old }
@@ -29,14 +30,14 @@ fn write_sort<const N: usize, S: Sort<N>>(line: &S, bytes: &mut [u8]) -> Result<
     ensures fit { Fit S.WIDTHS (values_of S.fields line.now) }
 {
     let values = line.values();
-    let (bits, size) = survey::<N, S>(&values);
+    let (bits, size) = survey::<_, S>(&values);
     let needed = 2 + size;
     if bytes.len() < needed {
         return Err(WriteRefusal { needed });
     }
     let map = S::TAG * 16384 + bits;
     put_number(&mut bytes[..2], map as u64);
-    put_fields::<N, S>(&mut bytes[2..], &values);
+    put_fields::<_, S>(&mut bytes[2..], &values);
     Ok(needed)
 }
 

@@ -4,8 +4,6 @@ use Rattle.archive.proofs.writer.put_fields.Given as goal
 
 abbrev pub invariant-loop-value : goal.invariant-loop-value
 invariant-loop-value g l = record {
-  can_next : (goal.iterator-loop-value g).can_next l.value-iterator;
-  is_finite : (goal.iterator-loop-value g).is_finite l.value-iterator;
   size : l.at + length (written (drop (length l.yielded) g.S.Sort.WIDTHS) (drop (length l.yielded) l.values)) ≡ length (written g.S.Sort.WIDTHS l.values);
   front : take l.at l.bytes ++ written (drop (length l.yielded) g.S.Sort.WIDTHS) (drop (length l.yielded) l.values) ≡ written g.S.Sort.WIDTHS l.values;
   back : drop l.at l.bytes ≡ drop l.at l.initial.bytes;

@@ -4,8 +4,6 @@ use Rattle.archive.proofs.writer.survey.Given as goal
 
 abbrev pub invariant-loop-value : goal.invariant-loop-value
 invariant-loop-value g l = record {
-  can_next : (goal.iterator-loop-value g).can_next l.value-iterator;
-  is_finite : (goal.iterator-loop-value g).is_finite l.value-iterator;
   bit : l.bit ≡ 2 ^ length l.yielded;
   below : l.bits < l.bit;
   bits : l.bits + l.bit * mask (drop (length l.yielded) l.values) ≡ mask l.values;

@@ -5,12 +5,6 @@ use Rattle.archive.specs.Lines.{values_of}
 use Rattle.archive.proofs.Storing.{line_stored}
 use Rattle.archive.proofs.writer.write_sort.Goals as goal
 
-pub overflow_mul-map : goal.overflow_mul-map
-overflow_mul-map g c = omega (arith, g.met.S.Sort.known, c.TAG.ensures)
-
-pub overflow_add-map : goal.overflow_add-map
-overflow_add-map g c = omega (arith, g.met.S.Sort.known, c.TAG.ensures)
-
 pub returns-clause-bytes : goal.returns-clause-bytes
 returns-clause-bytes g c =
     let t = g.S.Sort.TAG in
