@@ -1,7 +1,5 @@
 -- The two theorems on whole lines: what is written reads back, and what reads was written. Assumes nothing.
-use Rattle.std.proofs.Common.{◌≡◌, ℕ, suc, ◌+◌, ◌*◌, ◌/◌, ◌%◌, ◌^◌, ◌<◌, ◌≤◌, Bool, true, false, cond, eqb, List, [], ◌∷◌, ◌++◌, map, length, get_or, take, drop, Ok, Err, Result, sym, refl, ap, ◌∙◌, subst, inl, inr, arith, length-drop, take-add, pow_mono}
-use Rattle.std.specs.List.{range_with_len}
-use Rattle.std.proofs.lemmas.List.FromFn.{fill_by_all}
+use Rattle.std.proofs.Common.{◌≡◌, ℕ, suc, ◌+◌, ◌*◌, ◌/◌, ◌%◌, ◌^◌, ◌<◌, ◌≤◌, Bool, true, false, cond, eqb, List, [], ◌∷◌, ◌++◌, length, get_or, take, drop, Ok, Err, Result, sym, refl, ap, ◌∙◌, subst, inl, inr, arith, length-drop, take-add, pow_mono}
 use Rattle.std.proofs.lemmas.List.{length-take-le}
 use Rattle.std.proofs.ByRecursion.{All-take, All-drop}
 use Rattle.std.proofs.lemmas.Bool.{cond-true, cond-false, le-ltb, lt-ltb, lt-leb, ltb-false, leb-false, cases_lt}
@@ -150,7 +148,3 @@ read_written bs l n u e =
           record { within = f.within; front = f.front; fits = f.fit }
       | inr many ↦ let e2 = sym (cond-false _ _ _ (le-ltb t 3 many)) ∙ e1 in let z : ◌≡◌ {A = ℕ} 0 1 = cc in absurd (let no : ⊥ = omega arith in no)
     ]
-
--- a list of a known length is its elements
-pub spread : (vs : List ℕ) (n : ℕ) → length vs ≡ n → map (λ k. get_or vs k 0) (range_with_len 0 n) ≡ vs
-spread vs n e = sym (fill_by_all (λ k. get_or vs k 0) vs n 0 e (λ k h. refl))

@@ -5,7 +5,7 @@ use Rattle.std.specs.Int.Digits.{number_from_digits, AllBelowBase}
 use Rattle.std.proofs.lemmas.Int.Digits.{number_lt}
 use Rattle.std.proofs.lemmas.List.{append-nil, take_at, drop_at, length-take-le}
 use Rattle.std.proofs.ByRecursion.{All-take, All-drop}
-use Rattle.std.proofs.lemmas.Bool.{cond-true, cond-false, eq-eqb, ne_eqb, le-ltb, lt-ltb, eqb-false, ltb-false, cases_eq}
+use Rattle.std.proofs.lemmas.Bool.{cond-true, cond-false, eq-eqb, ne_eqb, le-ltb, eqb-false, ltb-false, cases_eq}
 use Rattle.refusals.specs.declared.ReadRefusal.{ReadRefusal}
 use Rattle.refusals.specs.declared.ReadRefusal.TheVariants.{Ended, Zero}
 use Rattle.archive.specs.Fields.{bytes_of, mask, written, Fit, fields}
@@ -25,14 +25,8 @@ module _ (done : List ℕ) (w : ℕ) (ws : List ℕ) (m at : ℕ) (bs : List ℕ
   pub present : (m % 2 ≡ 0 → ⊥) → fields done (w ∷ ws) m at bs ≡ cond (ltb (length bs) w) (Err (Ended at)) (cond (eqb value 0) (Err (Zero at)) after)
   present n = cond-false _ _ _ (ne_eqb (m % 2) 0 n)
 
-  pub ended : (m % 2 ≡ 0 → ⊥) → length bs < w → fields done (w ∷ ws) m at bs ≡ Err (Ended at)
-  ended n h = present n ∙ cond-true _ _ _ (lt-ltb (length bs) w h)
-
   pub inside : (m % 2 ≡ 0 → ⊥) → w ≤ length bs → fields done (w ∷ ws) m at bs ≡ cond (eqb value 0) (Err (Zero at)) after
   inside n h = present n ∙ cond-false _ _ _ (le-ltb (length bs) w h)
-
-  pub zeroed : (m % 2 ≡ 0 → ⊥) → w ≤ length bs → value ≡ 0 → fields done (w ∷ ws) m at bs ≡ Err (Zero at)
-  zeroed n h e = inside n h ∙ cond-true _ _ _ (eq-eqb value 0 e)
 
   pub stands : (m % 2 ≡ 0 → ⊥) → w ≤ length bs → (value ≡ 0 → ⊥) → fields done (w ∷ ws) m at bs ≡ after
   stands n h e = inside n h ∙ cond-false _ _ _ (ne_eqb value 0 e)

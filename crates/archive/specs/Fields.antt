@@ -31,11 +31,6 @@ Fit [] (v ∷ vs) = ⊥
 Fit (w ∷ ws) [] = ⊥
 Fit (w ∷ ws) (v ∷ vs) = (v < 256 ^ w) × Fit ws vs
 
--- the same of values at the places from k on, of which there may be more
-abbrev pub Within : List ℕ → ℕ → List ℕ → Type 0
-Within [] k vs = Unit {0}
-Within (w ∷ ws) k vs = (slice_index vs k < 256 ^ w) × Within ws (k + 1) vs
-
 -- the place of the two bits that tell the sort
 abbrev pub map_bits : ℕ
 map_bits = 16384

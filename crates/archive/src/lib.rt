@@ -3,6 +3,5 @@
 
 pub mod line;
 pub mod reader;
-mod table;
-mod view;
+mod sort;
 pub mod writer;

@@ -1,6 +1,8 @@
 // The lines of the archive: where a piece went, what closed, and what a season was packed into.
+ghost use Rattle.std.specs.Prelude.{◌≡◌};
+
 // A piece, as it was handed over, with its container.
-#[derive(Clone, Copy, PartialEq, Eq, Debug)]
+#[derive(Clone, Copy, PartialEq, Eq, Default, Debug)]
 pub struct PlaceLine {
     pub number: u32,
     pub first: u32,
@@ -11,7 +13,7 @@ pub struct PlaceLine {
 }
 
 // A container that closed, with the used cost and the floor then.
-#[derive(Clone, Copy, PartialEq, Eq, Debug)]
+#[derive(Clone, Copy, PartialEq, Eq, Default, Debug)]
 pub struct ClosingLine {
     pub container: u32,
     pub class: u8,
@@ -23,7 +25,7 @@ pub struct ClosingLine {
 }
 
 // The measures and figures of a pile.
-#[derive(Clone, Copy, PartialEq, Eq, Debug)]
+#[derive(Clone, Copy, PartialEq, Eq, Default, Debug)]
 pub struct HeadingLine {
     pub code: u8,
     // capacity or width
@@ -45,6 +47,36 @@ pub enum Line {
     Place(PlaceLine),
     Closing(ClosingLine),
     Heading(HeadingLine),
+}
+
+impl From<PlaceLine> for Line {
+    ghost use Rattle.archive.specs.declared.line.Line.TheVariants.{Place};
+
+    ghost from_gives = { λ place line. line ≡ Place place };
+
+    fn from(place: PlaceLine) -> Line {
+        Line::Place(place)
+    }
+}
+
+impl From<ClosingLine> for Line {
+    ghost use Rattle.archive.specs.declared.line.Line.TheVariants.{Closing};
+
+    ghost from_gives = { λ closing line. line ≡ Closing closing };
+
+    fn from(closing: ClosingLine) -> Line {
+        Line::Closing(closing)
+    }
+}
+
+impl From<HeadingLine> for Line {
+    ghost use Rattle.archive.specs.declared.line.Line.TheVariants.{Heading};
+
+    ghost from_gives = { λ heading line. line ≡ Heading heading };
+
+    fn from(heading: HeadingLine) -> Line {
+        Line::Heading(heading)
+    }
 }
 
 // Lines of zeros, to fill memory with that is to hold lines.

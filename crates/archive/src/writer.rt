@@ -1,15 +1,15 @@
 // Lines as bytes.
-ghost use Rattle.std.specs.Prelude.{◌≡◌, ℕ, ◌+◌, ◌*◌, ◌^◌, ◌<◌, ◌≤◌, ◌++◌, length, take, drop, IfOk, slice_index};
-ghost use Rattle.archive.specs.Fields.{BitsStand, bytes_of, mask, written, encoded};
-ghost use Rattle.archive.specs.Lines.{values, encode, write_answer, write_bytes, ReadsAs};
+ghost use Rattle.std.specs.Prelude.{◌≡◌, ◌*◌, ◌<◌, ◌≤◌, ◌++◌, length, take, drop, IfOk};
+ghost use Rattle.archive.specs.Fields.{BitsStand, Fit, bytes_of, mask, written, encoded};
+ghost use Rattle.archive.specs.Lines.{values, values_of, encode, write_answer, write_bytes, ReadsAs};
 
 use crate::line::Line;
-use crate::table::{CLOSING, HEADING, PLACE};
-use crate::view::{closing_values, heading_values, place_values};
+use crate::sort::Sort;
 use refusals::WriteRefusal;
 
 // Stores the line at the front of the bytes, and tells its length. Bytes behind it stay, and where
 // there is no room for it all of them do.
+#[tactic(auto, using(crate::proofs::Numbers::mask_bit))]
 pub fn write(line: &Line, bytes: &mut [u8]) -> Result<usize, WriteRefusal>
     ensures value { result ≡ write_answer (encode line.now) bytes.old }
     ensures bytes { bytes.new ≡ write_bytes (encode line.now) bytes.old }
@@ -17,91 +17,68 @@ pub fn write(line: &Line, bytes: &mut [u8]) -> Result<usize, WriteRefusal>
     ensures reads { IfOk result (λ n. ReadsAs (take n bytes.new) line.now n) }
 {
     match line {
-        Line::Place(place) => put_line(bytes, 0, &PLACE, &place_values(place)),
-        Line::Closing(closing) => put_line(bytes, 1, &CLOSING, &closing_values(closing)),
-        Line::Heading(heading) => put_line(bytes, 2, &HEADING, &heading_values(heading)),
+        Line::Place(place) => write_sort(place, bytes),
+        Line::Closing(closing) => write_sort(closing, bytes),
+        Line::Heading(heading) => write_sort(heading, bytes),
     }
 }
 
-// Writes a line of any sort.
-fn put_line<const N: usize>(
-    bytes: &mut [u8],
-    tag: u16,
-    widths: &[u8; N],
-    values: &[u64; N],
-) -> Result<usize, WriteRefusal>
-    requires sort { tag < 4 }
-    requires few { N ≤ 14 }
-    requires widths { length widths.now ≡ N }
-    requires values { length values.now ≡ N }
-    requires narrow { (k : ℕ) → k < N → slice_index widths.now k ≤ 8 }
-    ensures value { result ≡ write_answer (encoded tag widths.now values.now) bytes.old }
-    ensures bytes { bytes.new ≡ write_bytes (encoded tag widths.now values.now) bytes.old }
-    ensures fit { (k : ℕ) → k < N → slice_index values.now k < 2 ^ 64 }
+// The same for a line of one sort.
+fn write_sort<const N: usize, S: Sort<N>>(line: &S, bytes: &mut [u8]) -> Result<usize, WriteRefusal>
+    ensures value { result ≡ write_answer (encoded S.TAG S.WIDTHS (values_of S.fields line.now)) bytes.old }
+    ensures bytes { bytes.new ≡ write_bytes (encoded S.TAG S.WIDTHS (values_of S.fields line.now)) bytes.old }
+    ensures fit { Fit S.WIDTHS (values_of S.fields line.now) }
 {
-    let (bits, size) = survey(widths, values);
+    let values = line.values();
+    let (bits, size) = survey::<_, S>(&values);
     let needed = 2 + size;
     if bytes.len() < needed {
         return Err(WriteRefusal { needed });
     }
-    let map = tag * 16384 + bits;
-    put_number(bytes, 0, 2, map as u64);
-    put_fields(bytes, widths, values);
+    let map = S::TAG * 16384 + bits;
+    put_number(&mut bytes[..2], map as u64);
+    put_fields::<_, S>(&mut bytes[2..], &values);
     Ok(needed)
 }
 
-// The map without its tag, and the length of the fields.
-fn survey<const N: usize>(widths: &[u8; N], values: &[u64; N]) -> (u16, usize)
-    requires few { N ≤ 14 }
-    requires widths { length widths.now ≡ N }
-    requires values { length values.now ≡ N }
-    requires narrow { (k : ℕ) → k < N → slice_index widths.now k ≤ 8 }
+// The map without its tag, and the length of the fields that are not 0.
+fn survey<const N: usize, S: Sort<N>>(values: &[u64; N]) -> (u16, usize)
     ensures bits { result.0 ≡ mask values.now }
-    ensures size { result.1 ≡ length (written widths.now values.now) }
-    ensures fit { (k : ℕ) → k < N → slice_index values.now k < 2 ^ 64 }
+    ensures size { result.1 ≡ length (written S.WIDTHS values.now) }
     ensures small { (result.0 < 16384) × (result.1 ≤ 8 * 14) }
 {
-    let mut bits: u16 = 0;
-    let mut size: usize = 0;
-    let mut i = N;
-    while i > 0 {
-        i -= 1;
-        bits *= 2;
-        if values[i] != 0 {
-            bits += 1;
-            size += widths[i] as usize;
+    let mut bits = 0;
+    let mut size = 0;
+    let mut bit = 1;
+    for (&value, &width) in values.iter().zip(&S::WIDTHS) {
+        if value != 0 {
+            bits += bit;
+            size += width as usize;
         }
+        bit *= 2;
     }
     (bits, size)
 }
 
-// Writes the fields that are not 0 behind the map.
-fn put_fields<const N: usize>(bytes: &mut [u8], widths: &[u8; N], values: &[u64; N])
-    requires widths { length widths.now ≡ N }
-    requires values { length values.now ≡ N }
-    requires narrow { (k : ℕ) → k < N → slice_index widths.now k ≤ 8 }
-    requires room { 2 + length (written widths.now values.now) ≤ length bytes.old }
-    ensures { bytes.new ≡ take 2 bytes.old ++ (written widths.now values.now ++ drop (2 + length (written widths.now values.now)) bytes.old) }
+// Writes the fields that are not 0 to the front of the bytes.
+fn put_fields<const N: usize, S: Sort<N>>(bytes: &mut [u8], values: &[u64; N])
+    requires { length (written S.WIDTHS values.now) ≤ length bytes.old }
+    ensures { bytes.new ≡ written S.WIDTHS values.now ++ drop (length (written S.WIDTHS values.now)) bytes.old }
 {
-    let mut at = 2;
-    for i in 0..N {
-        if values[i] != 0 {
-            put_number(bytes, at, widths[i], values[i]);
-            at += widths[i] as usize;
+    let mut at = 0;
+    for (&value, &width) in values.iter().zip(&S::WIDTHS) {
+        if value != 0 {
+            let end = at + width as usize;
+            put_number(&mut bytes[at..end], value);
+            at = end;
         }
     }
 }
 
-// Writes `value` into `width` bytes from `at`, high byte first.
-fn put_number(bytes: &mut [u8], at: usize, width: u8, value: u64)
-    requires { at + width ≤ length bytes.old }
-    ensures { bytes.new ≡ take at bytes.old ++ (bytes_of width value ++ drop (at + width) bytes.old) }
+// Writes the value over all of the bytes, high byte first.
+fn put_number(bytes: &mut [u8], value: u64)
+    requires { length bytes.old ≤ 8 }
+    ensures { bytes.new ≡ bytes_of (length bytes.old) value }
 {
-    let mut left = value;
-    let mut i = width;
-    while i > 0 {
-        i -= 1;
-        bytes[at + i as usize] = (left % 256) as u8;
-        left /= 256;
-    }
+    bytes.copy_from_slice(&value.to_be_bytes()[8 - bytes.len()..]);
 }
