@@ -3,6 +3,7 @@
 
 ghost use Rattle.std.specs.Prelude.{◌≡◌};
 ghost use Rattle.refusals.specs.Numbers.{number_of_piece, number_of_put, number_of_make, number_of_write, number_of_read};
+ghost use Rattle.refusals.specs.declared.PutRefusal.TheVariants.{NotAdmitted};
 
 // Why a kind of container does not admit a piece.
 #[derive(Clone, Copy, PartialEq, Eq, Debug)]
@@ -53,6 +54,14 @@ pub enum ReadRefusal {
     NoField { at: usize },
     // a field is present and 0
     Zero { at: usize },
+}
+
+impl From<PieceRefusal> for PutRefusal {
+    ghost from_gives = { λ refusal r. r ≡ NotAdmitted refusal };
+
+    fn from(refusal: PieceRefusal) -> PutRefusal {
+        PutRefusal::NotAdmitted(refusal)
+    }
 }
 
 impl PieceRefusal {
