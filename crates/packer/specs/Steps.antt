@@ -13,7 +13,6 @@ pub record AdmitsAs (m : Meaning) (p : Piece) (a : Admission) : Type 0 where
   pub class : a.class ≡ m.class p
   pub load : a.load ≡ m.load p
   pub weight : a.weight ≡ m.weight p
-  pub cost : a.cost ≡ m.cost (m.class p)
 
 -- all that a put of an admitted piece brings
 abbrev pub turn_of : Meaning → Ledger → Piece → Turn

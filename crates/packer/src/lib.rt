@@ -31,13 +31,10 @@ struct Admission {
     class: u8,
     load: u32,
     weight: u64,
-    // what a container of the class costs
-    cost: u64,
     ghost some_class: { 1 ≤ class },
     ghost few_classes: { class ≤ 104 },
     ghost most_load: { load ≤ 1000000 },
     ghost most_weight: { weight ≤ 2 ^ 44 },
-    ghost most_cost: { cost ≤ 2 ^ 44 },
 }
 
 // All that a put of an admitted piece brings.
@@ -109,20 +106,28 @@ impl<K: Kind> Packer<K> {
         let class = self.kind.class(piece);
         let load = self.kind.load(piece);
         let weight = self.kind.weight(piece);
-        let cost = self.kind.cost(class);
         Ok(Admission {
             class,
             load,
             weight,
-            cost,
         })
+    }
+
+    // What a container of any class costs, of none too.
+    fn cost(&self, class: u8) -> u64
+        ensures value { result ≡ (K.meaning self.now.kind).cost class }
+        ensures high { result ≤ 2 ^ 44 }
+    {
+        self.kind.cost(class)
     }
 
     // The least number whose product with the ceiling is at least the weight.
     fn floor(&self, weight: u64) -> u64
+        requires { weight ≤ 2 ^ 62 }
         ensures { result ≡ floor_of (K.meaning self.now.kind).ceiling weight }
     {
-        weight.div_ceil(self.kind.ceiling())
+        let ceiling = self.kind.ceiling();
+        (weight + (ceiling - 1)) / ceiling
     }
 
     // What stands open in a class.
@@ -172,14 +177,14 @@ impl<K: Kind> Packer<K> {
             weight: taking.weight + told.weight,
         };
         let goes = taking.count != 0;
-        let closes = found.count != 0 && !goes;
         let full = self.kind.full(told.class, taken.count, taken.level);
-        let used = if goes {
-            self.ledger.used
+        let (opened, used) = if goes {
+            (self.ledger.opened, self.ledger.used)
         } else {
-            self.ledger.used + told.cost
+            (self.ledger.opened + 1, self.ledger.used + self.cost(told.class))
         };
         let weight = self.ledger.weight + told.weight;
+        let closes = found.count != 0 && !goes;
         let floor = self.floor(weight);
         let closing = |slot: &Slot| ClosingLine {
             container: slot.container,
@@ -198,11 +203,7 @@ impl<K: Kind> Packer<K> {
                 after: full.then(|| closing(&taken)),
             },
             slot: if full { NOTHING } else { taken },
-            opened: if goes {
-                self.ledger.opened
-            } else {
-                self.ledger.opened + 1
-            },
+            opened,
             used,
             weight,
         }
