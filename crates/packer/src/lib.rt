@@ -114,6 +114,7 @@ impl<K: Kind> Packer<K> {
     }
 
     // What a container of any class costs, of none too.
+    #[tactic(auto, using(crate::proofs::Sums::any_cost))]
     fn cost(&self, class: u8) -> u64
         ensures value { result ≡ (K.meaning self.now.kind).cost class }
         ensures high { result ≤ 2 ^ 44 }
@@ -231,6 +232,7 @@ impl<K: Kind> Packer<K> {
         Ok(turn)
     }
 
+    // Enters the turn.
     fn enter(&mut self, turn: &Turn)
         requires class { (1 ≤ turn.now.placing.class) × (turn.now.placing.class ≤ 104) }
         requires bounded { Bounded (entered self.old.ledger turn.now) }
@@ -246,6 +248,7 @@ impl<K: Kind> Packer<K> {
     }
 
     // One put: its answer, what it leaves, and the lines that it adds.
+    #[tactic(auto, using(ledger::proofs::Seasons::capped))]
     pub fn put(
         &mut self,
         piece: Piece,
