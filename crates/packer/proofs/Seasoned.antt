@@ -1,19 +1,16 @@
 -- A put as a step of a season, and the sum of a report. Assumes nothing.
-use Rattle.std.proofs.Common.{◌*◌, ◌≡◌, ℕ, suc, ◌+◌, ◌-◌, ◌^◌, ◌≤◌, cond, not, ◌⊎◌, List, [], ◌∷◌, ◌++◌, get_or, sum_by, Result, sym, ap, ◌∙◌, subst, inl, inr, add-zero, mul-le-mul_right, one-mul, add-one, arith}
-use Rattle.std.proofs.lemmas.List.Sums.{sum_by_push}
-use Rattle.std.proofs.lemmas.Bool.{cases_lt, ne_eqb, eq-eqb}
+use Rattle.std.proofs.Common.{◌*◌, ◌≡◌, ℕ, ◌≤◌, List, [], ◌∷◌, ◌++◌, Result, sym, subst}
 use Rattle.kinds.specs.declared.piece.Piece.{Piece}
 use Rattle.ledger.specs.declared.Ledger.{Ledger}
 use Rattle.ledger.specs.declared.Placing.{Placing}
 use Rattle.refusals.specs.declared.PutRefusal.{PutRefusal}
-use Rattle.kinds.specs.Kind.{Meaning, Lawful, ClassOf}
-use Rattle.ledger.specs.Rules.{floor_of, Call, a_put, a_report, Ran, then_put, then_report, put_answer, put_ledger, stands, nothing, upto}
+use Rattle.kinds.specs.Kind.{Meaning, Lawful}
+use Rattle.ledger.specs.Rules.{floor_of, Call, a_put, a_report, Ran, then_put, then_report, put_answer, put_ledger}
 use Rattle.ledger.specs.declared.Report.{Report}
 use Rattle.ledger.specs.Rules.{report as told_by}
-use Rattle.ledger.specs.Season.{Season, LeastFloor}
+use Rattle.ledger.specs.Season.{Season}
 use Rattle.ledger.proofs.Floors.{floor_covers, floor_least}
 use Rattle.ledger.proofs.Seasons.{season}
-use Rattle.ledger.proofs.Sound.{open_cost_in}
 
 module _ {K : Type 0} (M : K → Meaning) (k k' : K) (s s' : Ledger) (p : Piece) (a : Result Placing PutRefusal) (places closes : ℕ) (same : k' ≡ k) (left : s' ≡ put_ledger (M k) s p places closes) (told : a ≡ put_answer (M k) s p places closes) where
   pub step_ran : (h : List Call) → Ran (M k) h s → Ran (M k') (h ++ (a_put p a ∷ [])) s'

@@ -122,7 +122,8 @@ impl<K: Kind> Packer<K> {
         self.kind.cost(class)
     }
 
-    // The least number whose product with the ceiling is at least the weight.
+    // The least number whose product with the ceiling is at least the weight. Not by `div_ceil`, whose
+    // test of the remainder made a put of bars a tenth longer.
     fn floor(&self, weight: u64) -> u64
         requires { weight ≤ 2 ^ 62 }
         ensures { result ≡ floor_of (K.meaning self.now.kind).ceiling weight }
@@ -164,6 +165,7 @@ impl<K: Kind> Packer<K> {
         }
     }
 
+    // All that a put of the piece brings, where the lists have room for it.
     fn turn(&self, piece: &Piece, told: &Admission) -> Turn
         requires few { self.now.ledger.accepted < 100000 }
         requires told { AdmitsAs (K.meaning self.now.kind) piece.now told.now }
@@ -182,7 +184,10 @@ impl<K: Kind> Packer<K> {
         let (opened, used) = if goes {
             (self.ledger.opened, self.ledger.used)
         } else {
-            (self.ledger.opened + 1, self.ledger.used + self.cost(told.class))
+            (
+                self.ledger.opened + 1,
+                self.ledger.used + self.cost(told.class),
+            )
         };
         let weight = self.ledger.weight + told.weight;
         let closes = found.count != 0 && !goes;
@@ -224,8 +229,8 @@ impl<K: Kind> Packer<K> {
             return Err(PutRefusal::SeasonFull);
         }
         let turn = self.turn(piece, &told);
-        let closes =
-            usize::from(turn.placing.before.is_some()) + usize::from(turn.placing.after.is_some());
+        let closes = usize::from(turn.placing.before.is_some())
+            + usize::from(turn.placing.after.is_some());
         if places == 0 || closings < closes {
             return Err(PutRefusal::ListFull);
         }
@@ -270,13 +275,13 @@ impl<K: Kind> Packer<K> {
         Ok(turn.placing)
     }
 
-    // What one open container in every class would cost, at standing costs.
+    // What one open container in every class would cost, at standing costs. The range ends at + 1, since
+    // no lemma of std goes through a chain from `1..=n`.
     pub fn standing_cost(&self) -> u64
         ensures { result ≡ standing_cost (K.meaning self.now.kind) }
     {
-        (1..self.kind.classes() + 1)
-            .map(|class| self.kind.standing(class))
-            .sum()
+        let last = self.kind.classes();
+        (1..last + 1).map(|class| self.kind.standing(class)).sum()
     }
 
     // What the containers now open cost.
@@ -286,7 +291,7 @@ impl<K: Kind> Packer<K> {
         (1..105u8)
             .map(|class| {
                 if self.ledger.bank.at(class).count != 0 {
-                    self.kind.cost(class)
+                    self.cost(class)
                 } else {
                     0
                 }
