@@ -1,7 +1,6 @@
-// A list of lines over memory of the caller. One kind of list serves every sort of line.
-ghost use Rattle.std.specs.Prelude.{◌≡◌, ◌+◌, ◌-◌, ◌<◌, ◌≤◌, [], ◌∷◌, ◌++◌, length, drop, if◌then◌else◌, MatchOption, nat_lt, slice_index_or, slice_set};
-ghost use Rattle.ledger.specs.Rules.{maybe};
-ghost use Rattle.packer.specs.Lists.{lines_in, room, written};
+// A list of lines over memory of the caller: a slice with a length beside it, and no Vec, since a
+// packer uses no heap. One kind of list serves every sort of line.
+ghost use Rattle.std.specs.Prelude.{◌≡◌, ◌≤◌, length};
 
 #[derive(Drop)]
 pub struct Lines<'a, T> {
@@ -11,6 +10,10 @@ pub struct Lines<'a, T> {
 }
 
 impl<'a, T: Copy> Lines<'a, T> {
+    ghost use Rattle.std.specs.Prelude.{◌≡◌, ◌<◌, ◌≤◌, ◌↔◌, [], ◌∷◌, length, IsOk, OnOk, IfErr, slice_get};
+    ghost use Rattle.ledger.specs.Rules.{maybe};
+    ghost use Rattle.packer.specs.Shown.{free, shown, Gained};
+
     // A list that holds no line yet.
     pub fn new(memory: &'a mut [T]) -> Lines<'a, T>
         ensures used { result.used ≡ 0 }
@@ -22,59 +25,49 @@ impl<'a, T: Copy> Lines<'a, T> {
 
     // How many lines it holds.
     pub fn len(&self) -> usize
-        ensures { result ≡ length (lines_in self.now.memory.now self.now.used) }
+        ensures { result ≡ length (shown self.now) }
     {
         self.view().len()
     }
 
     // How many lines are unwritten.
     pub fn room(&self) -> usize
-        ensures { result ≡ room self.now.memory.now self.now.used }
+        ensures { result ≡ free self.now }
     {
         self.memory.len() - self.used
     }
 
     // The line at an index, from 0, or its absence.
     pub fn get(&self, i: usize) -> Option<T>
-        ensures { MatchOption result (length (lines_in self.now.memory.now self.now.used) ≤ i) (λ x. (i < length (lines_in self.now.memory.now self.now.used)) × ((d : T) → x ≡ slice_index_or (lines_in self.now.memory.now self.now.used) i d)) }
+        ensures { result ≡ slice_get (shown self.now) i }
     {
-        if i < self.used {
-            let memory = &*self.memory;
-            Some(memory[i])
-        } else {
-            None
-        }
+        self.view().get(i).copied()
     }
 
     // All lines, in order of adding.
     pub fn view(&self) -> &[T]
-        ensures { result.now ≡ lines_in self.now.memory.now self.now.used }
+        ensures { result.now ≡ shown self.now }
     {
-        &self.memory[0..self.used]
+        &self.memory[..self.used]
     }
 
-    // One line more, or false where none is unwritten; then the list stays as it was.
-    pub fn add(&mut self, line: T) -> bool
-        ensures value { result ≡ nat_lt 0 (room self.old.memory.now self.old.used) }
-        ensures lines { lines_in self.new.memory.now self.new.used ≡ lines_in self.old.memory.now self.old.used ++ (if result then line ∷ [] else []) }
-        ensures used { self.new.used ≡ self.old.used + (if result then 1 else 0) }
-        ensures memory { self.new.memory.now ≡ (if result then slice_set self.old.memory.now self.old.used line else self.old.memory.now) }
-        ensures rest { drop self.new.used self.new.memory.now ≡ drop self.new.used self.old.memory.now }
-        ensures same { self.new.memory.ghost_name ≡ self.old.memory.ghost_name }
+    // One line more. Where none is unwritten, the line comes back and the list stays as it was.
+    pub fn add(&mut self, line: T) -> Result<(), T>
+        ensures fits { IsOk result ↔ (0 < free self.old) }
+        ensures added { OnOk result (Gained self.old self.new (line ∷ [])) }
+        ensures full { IfErr result (λ back. (back ≡ line) × (self.new ≡ self.old)) }
     {
         if self.room() == 0 {
-            return false;
+            return Err(line);
         }
         self.write(line);
-        true
+        Ok(())
     }
 
     // One line more, where one is unwritten.
     pub(crate) fn write(&mut self, line: T)
-        requires { self.old.used < length self.old.memory.now }
-        ensures used { self.new.used ≡ self.old.used + 1 }
-        ensures memory { self.new.memory.now ≡ slice_set self.old.memory.now self.old.used line }
-        ensures same { self.new.memory.ghost_name ≡ self.old.memory.ghost_name }
+        requires { 0 < free self.old }
+        ensures { Gained self.old self.new (line ∷ []) }
     {
         self.memory[self.used] = line;
         self.used += 1;
@@ -82,10 +75,8 @@ impl<'a, T: Copy> Lines<'a, T> {
 
     // The line that is there, if one is.
     pub(crate) fn write_some(&mut self, line: Option<T>)
-        requires { self.old.used + length (maybe line) ≤ length self.old.memory.now }
-        ensures used { self.new.used ≡ self.old.used + length (maybe line) }
-        ensures memory { self.new.memory.now ≡ written self.old.memory.now self.old.used (maybe line) }
-        ensures same { self.new.memory.ghost_name ≡ self.old.memory.ghost_name }
+        requires { length (maybe line) ≤ free self.old }
+        ensures { Gained self.old self.new (maybe line) }
     {
         if let Some(x) = line {
             self.write(x);

@@ -1,29 +1,20 @@
-use Rattle.ledger.proofs.Seasons.{capped}
+use Rattle.std.proofs.Common.{sym, refl, subst, rules}
+use Rattle.ledger.specs.Bounded.{Bounded}
+use Rattle.ledger.proofs.Bounds.{bounded_after}
+use Rattle.packer.specs.Shown.{free}
+use Rattle.packer.specs.Steps.{entered}
 use Rattle.packer.proofs.Seasoned.{step_ran}
-use Rattle.packer.proofs.Writing.{lines_after, rest_after}
 use Rattle.packer.proofs.Packer.put.Goals as goal
 
-pub returns : goal.returns
-returns g c =
-    let e = c.step.ensures in
-    record {
-      answer = e.answer;
-      ledger = e.ledger;
-      kind = e.kind;
-      places = record {
-        lines = lines_after _ _ _ _ _ e.places_used e.places_memory c.step.new.places.within;
-        used = e.places_used;
-        memory = e.places_memory;
-        rest = rest_after _ _ _ _ _ e.places_used e.places_memory;
-        same = e.places_same;
-      };
-      closings = record {
-        lines = lines_after _ _ _ _ _ e.closings_used e.closings_memory c.step.new.closings.within;
-        used = e.closings_used;
-        memory = e.closings_memory;
-        rest = rest_after _ _ _ _ _ e.closings_used e.closings_memory;
-        same = e.closings_same;
-      };
-      ran = step_ran g.K.Kind.meaning _ _ _ _ c.args.piece _ _ _ e.kind e.ledger e.answer;
-      cap = λ h r. capped _ (g.met.K.Kind.lawful c.args.self.now.kind) h _ r c.args.piece;
-    }
+pub returns-in_err-turn-clause-ran : goal.returns-in_err-turn-clause-ran
+returns-in_err-turn-clause-ran g c = step_ran g.K.Kind.meaning _ _ _ _ c.args.piece _ (free c.args.places.now) (free c.args.closings.now) refl (search rules) (search rules)
+
+pub enter-requires-clause-bounded : goal.enter-requires-clause-bounded
+enter-requires-clause-bounded g c =
+    let k = c.args.self.now.kind in
+    let s = c.args.self.now.ledger in
+    let a = c.in_ok-turn.ensures.accepted in
+    subst (λ t. Bounded (entered s t)) (sym a.turn) (bounded_after (g.K.Kind.meaning k) (g.met.K.Kind.lawful k) s c.args.self.now.bounded c.args.piece a.admitted a.few)
+
+pub returns-clause-ran : goal.returns-clause-ran
+returns-clause-ran g c = step_ran g.K.Kind.meaning _ _ _ _ c.args.piece _ (free c.args.places.now) (free c.args.closings.now) c.enter.ensures.kind (search rules) (search rules)
