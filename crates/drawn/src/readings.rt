@@ -4,7 +4,7 @@ use crate::text::{START, bytes_line, numbers, sum_line, sum_of};
 use archive::line::{ClosingLine, HeadingLine, Line, PlaceLine};
 use archive::reader::read;
 use archive::writer::write;
-use refusals::ReadRefusal;
+use refusals::{ReadRefusal, Refusal};
 use std::alloc::{AllocError, Global};
 
 pub const SAMPLES: [Line; 3] = [

@@ -14,7 +14,7 @@ use layers::finishes::Finishes;
 use ledger::{Placing, Report};
 use packer::Packer;
 use packer::lines::Lines;
-use refusals::{MakeRefusal, PutRefusal};
+use refusals::{MakeRefusal, PutRefusal, Refusal};
 use std::alloc::{AllocError, Global};
 
 // How much room a list has, and how many lines are in it already.

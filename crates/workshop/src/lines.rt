@@ -2,6 +2,7 @@
 use archive::line::{ClosingLine, HeadingLine, Line, PlaceLine};
 use archive::reader::read;
 use archive::writer::write;
+use refusals::Refusal;
 use std::io;
 
 fn show_fields(rt: &impl Print, line: &Line) -> io::Result<()> {

@@ -10,7 +10,7 @@ use kinds::strips::Strips;
 use kinds::totes::Totes;
 use layers::allowance::Allowance;
 use layers::finishes::Finishes;
-use refusals::{MakeRefusal, PieceRefusal};
+use refusals::{MakeRefusal, PieceRefusal, Refusal};
 use std::io;
 
 mod lines;

@@ -11,7 +11,7 @@ use layers::finishes::Finishes;
 use ledger::{Placing, Report};
 use packer::Packer;
 use packer::lines::Lines;
-use refusals::{MakeRefusal, PutRefusal};
+use refusals::{MakeRefusal, PutRefusal, Refusal};
 use std::alloc::{AllocError, Global};
 
 type Pile = Finishes<Allowance<Bars>>;
