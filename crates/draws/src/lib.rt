@@ -1,7 +1,7 @@
 // Numbers drawn one after another: what is drawn hangs on the seed alone.
 #![tactic(auto)]
 
-ghost use Rattle.std.specs.Prelude.{◌≡◌, ℕ, ◌<◌};
+ghost use Rattle.std.specs.Prelude.{◌≡◌, ℕ, ◌^◌, ◌<◌};
 ghost use Rattle.draws.specs.Draws.{seed, step, drawn_below};
 
 use std::marker::Model;
@@ -41,6 +41,7 @@ impl Generator {
         ensures value { result ≡ drawn_below n self.new }
         ensures state { self.new ≡ step self.old }
         ensures below { 0 < n → result < n }
+        ensures small { result < 2 ^ 31 }
         ensures none { n ≡ 0 → result ≡ 0 }
     {
         self.state = step(self.state);

@@ -1,5 +1,5 @@
 // Archive lines: written, shown as bytes, read back.
-ghost use Rattle.std.specs.Prelude.{◌≤◌, IfOk, length};
+ghost use Rattle.std.specs.Prelude.{length};
 ghost use Rattle.std.specs.Iterator.{at_most};
 
 use archive::line::{ClosingLine, HeadingLine, Line, PlaceLine};
