@@ -18,12 +18,12 @@ impl Model for Generator {
     ghost view = { λ g. g.state };
 }
 
+// Three shifts, each xored in.
 fn step(x: u64) -> u64
     ensures { result ≡ step x }
 {
-    let mut x = x;
-    x ^= x << 13;
-    x ^= x >> 7;
+    let x = x ^ (x << 13);
+    let x = x ^ (x >> 7);
     x ^ (x << 17)
 }
 
