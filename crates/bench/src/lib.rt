@@ -8,6 +8,7 @@ ghost use Rattle.kinds.specs.Strips.{strips};
 ghost use Rattle.bench.specs.Packed.{Packed};
 
 use archive::line::{ClosingLine, NO_CLOSING, NO_PLACE, PlaceLine};
+use draws::Generator;
 use kinds::Kind;
 use kinds::bars::Bars;
 use kinds::piece::Piece;
@@ -16,39 +17,16 @@ use kinds::totes::Totes;
 use packer::Packer;
 use packer::lines::Lines;
 
-// xorshift, 31 bits at a time
-#[derive(Drop)]
-struct Draw {
-    state: u64,
-}
-
-impl Draw {
-    fn new() -> Draw {
-        Draw {
-            state: 0x9e37_79b9_7f4a_7c15,
-        }
-    }
-
-    fn next(&mut self) -> u32 {
-        let mut x = self.state;
-        x ^= x << 13;
-        x ^= x >> 7;
-        x ^= x << 17;
-        self.state = x;
-        ((x >> 33) & 0x7fff_ffff) as u32
-    }
-
-    // A piece up to 1000 long; its height is 0, or up to `heights`.
-    fn piece(&mut self, number: u32, heights: u32) -> Piece {
-        let first = self.next() % 1000 + 1;
-        let drawn = self.next();
-        let second = if heights == 0 { 0 } else { drawn % heights + 1 };
-        Piece {
-            number,
-            first,
-            second,
-            finish: 0,
-        }
+// A piece up to 1000 long; its height is 0, or up to `heights`.
+fn drawn_piece(draw: &mut Generator, number: u32, heights: u32) -> Piece {
+    let first = draw.below(1000) + 1;
+    let height = draw.below(heights as u64);
+    let second = if heights == 0 { 0 } else { height + 1 };
+    Piece {
+        number,
+        first,
+        second,
+        finish: 0,
     }
 }
 
@@ -68,10 +46,10 @@ fn added(sum: u64, places: &[PlaceLine], closings: &[ClosingLine]) -> u64 {
 fn pack<K: Kind + Drop>(kind: K, heights: u32, pieces: u32, sum: &mut u64) -> u64
     ensures { Packed (K.meaning kind) result }
 {
-    let mut draw = Draw::new();
+    let mut draw = Generator::seeded(0);
     let mut packer = Packer::new(kind);
     for i in 0..pieces {
-        let piece = draw.piece(i / 2 + 1, heights);
+        let piece = drawn_piece(&mut draw, i / 2 + 1, heights);
         let mut place_memory = [NO_PLACE; 1];
         let mut closing_memory = [NO_CLOSING; 2];
         let mut places = Lines::new(&mut place_memory);

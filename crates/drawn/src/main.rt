@@ -3,10 +3,8 @@
 
 use crate::readings::{SAMPLES, maps, reading, spoilt};
 use crate::seasons::{Long, season};
-use crate::text::{START, sum_line, sum_of};
-use anyhow::anyhow;
+use crate::text::{START, sum_of};
 
-mod generator;
 mod plan;
 mod readings;
 mod seasons;
@@ -15,7 +13,7 @@ mod text;
 fn archive_lines(rt: &HostRuntime) -> anyhow::Result<()> {
     let heap = rt.alloc();
     let mut sum = START;
-    for i in 0..3000u64 {
+    for i in 0..3000 {
         let mut text = String::new(heap);
         reading(heap, &mut text, i)?;
         if i < 300 {
@@ -24,8 +22,8 @@ fn archive_lines(rt: &HostRuntime) -> anyhow::Result<()> {
             sum = sum_of(sum, text.as_str());
         }
     }
+    println!(rt; "z {sum:016x}")?;
     let mut text = String::new(heap);
-    sum_line(&mut text, "z", &[], sum)?;
     for line in &SAMPLES {
         spoilt(heap, &mut text, line)?;
     }
@@ -37,37 +35,34 @@ fn archive_lines(rt: &HostRuntime) -> anyhow::Result<()> {
 
 fn seasons_run(rt: &HostRuntime) -> anyhow::Result<()> {
     let heap = rt.alloc();
-    for s in 0..2400u64 {
+    for s in 0..2400 {
         let mut text = String::new(heap);
-        season(heap, &mut text, s)?;
-        if s >= 200 {
+        season(&mut text, s)?;
+        if s < 200 {
+            print!(rt; "{text}")?;
+        } else {
             let sum = sum_of(START, text.as_str());
-            text.clear();
-            sum_line(&mut text, "k", &[s], sum)?;
+            println!(rt; "k {s} {sum:016x}")?;
         }
-        print!(rt; "{text}")?;
     }
     Ok(())
 }
 
 fn long_season(rt: &HostRuntime) -> anyhow::Result<()> {
     let heap = rt.alloc();
-    let Ok(mut long) = Long::new() else {
-        return Err(anyhow!("bars of 1000 in 12 classes were refused"));
-    };
+    let mut long = Long::new()?;
     let mut sum = START;
     let mut last = String::new(heap);
-    for _ in 0..100_001u32 {
+    for _ in 0..100_001 {
         last.clear();
-        long.put(heap, &mut last)?;
+        long.put(&mut last)?;
         sum = sum_of(sum, last.as_str());
     }
     let mut report = String::new(heap);
     long.report(&mut report)?;
     sum = sum_of(sum, report.as_str());
-    let mut text = String::new(heap);
-    sum_line(&mut text, "k", &[2400], sum)?;
-    print!(rt; "{text}{report}{last}")?;
+    println!(rt; "k 2400 {sum:016x}")?;
+    print!(rt; "{report}{last}")?;
     Ok(())
 }
 

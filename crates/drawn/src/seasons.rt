@@ -1,9 +1,9 @@
 // Drawn seasons: every call with what it answered.
-use crate::generator::Generator;
-use crate::plan::{Layer, Plan};
+use crate::plan::{KindName, Layer, Plan};
 use crate::readings::written;
-use crate::text::{bytes_line, numbers};
-use archive::line::{ClosingLine, HeadingLine, Line, NO_CLOSING, NO_PLACE, PlaceLine};
+use crate::text::{Bytes, Fields};
+use archive::line::{HeadingLine, Line, NO_CLOSING, NO_PLACE};
+use draws::Generator;
 use kinds::Kind;
 use kinds::bars::Bars;
 use kinds::piece::Piece;
@@ -14,292 +14,241 @@ use layers::finishes::Finishes;
 use ledger::{Placing, Report};
 use packer::Packer;
 use packer::lines::Lines;
-use refusals::{MakeRefusal, PutRefusal};
-use std::alloc::{AllocError, Global};
+use refusals::{MakeRefusal, PutRefusal, Refusal};
+use std::alloc::AllocError;
 
 // How much room a list has, and how many lines are in it already.
 #[derive(Clone, Copy)]
 pub struct Size {
-    room: usize,
-    old: usize,
+    room: u32,
+    old: u32,
 }
 
-fn place_size(draw: &mut Generator) -> Size {
-    let room = if draw.below(25) == 0 {
-        0
-    } else {
-        draw.below(3) as usize % 3 + 1
-    };
-    Size {
-        room,
-        old: draw.below(2) as usize % 2,
+impl Size {
+    // A list with that room, behind lines of zeros.
+    fn list<'a, T: Copy>(self, memory: &'a mut [T; 4], zeros: T) -> Lines<'a, T> {
+        let length = self.room.saturating_add(self.old).min(4);
+        let mut lines = Lines::new(&mut memory[..length as usize]);
+        for _ in 0..self.old {
+            let _ = lines.add(zeros);
+        }
+        lines
     }
-}
-
-fn closing_size(draw: &mut Generator) -> Size {
-    let room = if draw.below(6) == 0 {
-        draw.below(2) as usize % 2
-    } else {
-        draw.below(2) as usize % 2 + 2
-    };
-    Size {
-        room,
-        old: draw.below(2) as usize % 2,
-    }
-}
-
-fn closing_fields(l: &ClosingLine) -> [u64; 7] {
-    [
-        l.container as u64,
-        l.class as u64,
-        l.pieces as u64,
-        l.level as u64,
-        l.weight,
-        l.used,
-        l.floor,
-    ]
 }
 
 fn answer_text(text: &mut String, answer: &Result<Placing, PutRefusal>) -> Result<(), AllocError> {
     match answer {
-        Err(refusal) => numbers(text, "r", &[refusal.number() as u64]),
+        Err(refusal) => writeln!(text, "r {}", refusal.number()),
         Ok(placing) => {
-            numbers(text, "p", &[placing.container as u64, placing.class as u64])?;
+            writeln!(text, "p {} {}", placing.container, placing.class)?;
             if let Some(before) = placing.before {
-                numbers(text, "b", &closing_fields(&before))?;
+                writeln!(text, "b{}", Fields(&Line::Closing(before)))?;
             }
             if let Some(after) = placing.after {
-                numbers(text, "f", &closing_fields(&after))?;
+                writeln!(text, "f{}", Fields(&Line::Closing(after)))?;
             }
             Ok(())
         }
     }
 }
 
-fn places_text(heap: Global, text: &mut String, lines: &[PlaceLine]) -> Result<(), AllocError> {
-    for l in lines {
-        numbers(
-            text,
-            "l",
-            &[
-                l.number as u64,
-                l.first as u64,
-                l.second as u64,
-                l.finish as u64,
-                l.container as u64,
-                l.class as u64,
-            ],
-        )?;
-        let bytes = written(heap, &Line::Place(*l))?;
-        bytes_line(text, bytes.as_slice())?;
+// The lines behind those that were in the list before, each with its bytes.
+fn gained_text<T: Copy, F: Fn(T) -> Line>(
+    text: &mut String,
+    letter: &str,
+    lines: &Lines<T>,
+    old: u32,
+    line_of: F,
+) -> anyhow::Result<()>
+    requires { F.IsAlwaysCallable line_of }
+{
+    for line in lines.view().iter().skip(old as usize) {
+        let line = line_of(*line);
+        let mut memory = [0; 64];
+        writeln!(text, "{letter}{}", Fields(&line))?;
+        writeln!(text, "{}", Bytes(written(&line, &mut memory)?))?;
     }
     Ok(())
-}
-
-fn closings_text(heap: Global, text: &mut String, lines: &[ClosingLine]) -> Result<(), AllocError> {
-    for l in lines {
-        numbers(text, "c", &closing_fields(l))?;
-        let bytes = written(heap, &Line::Closing(*l))?;
-        bytes_line(text, bytes.as_slice())?;
-    }
-    Ok(())
-}
-
-// The lines behind those that were in the list before.
-fn behind<T>(lines: &[T], old: usize) -> &[T] {
-    if old <= lines.len() {
-        &lines[old..lines.len()]
-    } else {
-        &lines[0..0]
-    }
 }
 
 fn put_text<K: Kind>(
-    heap: Global,
     text: &mut String,
     packer: &mut Packer<K>,
     piece: Piece,
     place_size: Size,
     closing_size: Size,
-) -> Result<(), AllocError> {
+) -> anyhow::Result<()> {
     let mut place_memory = [NO_PLACE; 4];
     let mut closing_memory = [NO_CLOSING; 4];
-    let most_places = (place_size.room % 4 + place_size.old % 2).min(4);
-    let most_closings = (closing_size.room % 4 + closing_size.old % 2).min(4);
-    let mut places = Lines::new(&mut place_memory[0..most_places]);
-    let mut closings = Lines::new(&mut closing_memory[0..most_closings]);
-    for _ in 0..place_size.old {
-        let _ = places.add(NO_PLACE);
-    }
-    for _ in 0..closing_size.old {
-        let _ = closings.add(NO_CLOSING);
-    }
-    let answer = packer.put(piece, &mut places, &mut closings);
-    answer_text(text, &answer)?;
-    places_text(heap, text, behind(places.view(), place_size.old))?;
-    closings_text(heap, text, behind(closings.view(), closing_size.old))
+    let mut places = place_size.list(&mut place_memory, NO_PLACE);
+    let mut closings = closing_size.list(&mut closing_memory, NO_CLOSING);
+    answer_text(text, &packer.put(piece, &mut places, &mut closings))?;
+    gained_text(text, "l", &places, place_size.old, Line::Place)?;
+    gained_text(text, "c", &closings, closing_size.old, Line::Closing)
 }
 
 fn report_text(text: &mut String, report: &Report) -> Result<(), AllocError> {
-    numbers(
+    let Report {
+        accepted,
+        opened,
+        used,
+        unclosed,
+        weight,
+        floor,
+    } = report;
+    writeln!(
         text,
-        "e",
-        &[
-            report.accepted as u64,
-            report.opened as u64,
-            report.used,
-            report.unclosed,
-            report.weight,
-            report.floor,
-        ],
+        "e {accepted} {opened} {used} {unclosed} {weight} {floor}"
     )
 }
 
-fn heading_text(
-    heap: Global,
-    text: &mut String,
-    plan: &Plan,
-    unit: u64,
-    ceiling: u64,
-    standing: u64,
-) -> Result<(), AllocError> {
-    let heading = HeadingLine {
-        code: plan.code,
-        capacity: plan.capacity,
-        k: if plan.code == 3 {
-            0
-        } else {
-            (plan.k & 0xff) as u8
-        },
-        limit: if plan.code == 2 {
-            (plan.limit & 0xff) as u8
-        } else {
-            0
-        },
-        allowance: (plan.allowances & 0xffff) as u16,
-        finishes: (plan.finishes & 0xff) as u8,
-        unit,
-        ceiling,
-        standing: (standing & 0xffff_ffff) as u32,
-    };
-    let bytes = written(heap, &Line::Heading(heading))?;
-    bytes_line(text, bytes.as_slice())
+// What comes next of a pile that was made or refused. A pile is a type of its own.
+trait Step {
+    fn go<K: Kind + Drop>(self, made: Result<K, MakeRefusal>) -> anyhow::Result<()>;
 }
 
-// The calls of a season over a pile that was made.
-fn calls_text<K: Kind + Drop>(
-    heap: Global,
-    text: &mut String,
-    plan: &Plan,
-    draw: &mut Generator,
-    pile: K,
-) -> Result<(), AllocError> {
-    let unit = pile.unit();
-    let ceiling = pile.ceiling();
-    let code = K::kind_code() as u64;
-    let classes = pile.classes() as u64;
-    let mut packer = Packer::new(pile);
-    let standing = packer.standing_cost();
-    numbers(text, "h", &[code, classes, unit, ceiling, standing])?;
-    heading_text(heap, text, plan, unit, ceiling, standing)?;
-    let calls = draw.below(50).wrapping_add(10);
-    for _ in 0..calls {
-        if draw.below(20) == 0 {
-            report_text(text, &packer.report())?;
-        } else {
-            let piece = plan.drawn_piece(draw);
-            let places = place_size(draw);
-            let closings = closing_size(draw);
-            put_text(heap, text, &mut packer, piece, places, closings)?;
+// One layer, where there is one, and what comes next of the higher pile.
+#[derive(Drop)]
+struct Over<S> {
+    layer: Option<Layer>,
+    next: S,
+}
+
+impl<S: Step + Drop> Step for Over<S> {
+    fn go<K: Kind + Drop>(self, made: Result<K, MakeRefusal>) -> anyhow::Result<()> {
+        let Over { layer, next } = self;
+        match layer {
+            None => next.go(made),
+            Some(Layer::Allowance(amount)) => {
+                next.go(made.and_then(|pile| Allowance::new(amount as u32, pile)))
+            }
+            Some(Layer::Finishes(count)) => {
+                next.go(made.and_then(|pile| Finishes::new(count as u32, pile)))
+            }
         }
     }
-    report_text(text, &packer.report())
 }
 
-fn unmade(text: &mut String, refusal: &MakeRefusal) -> Result<(), AllocError> {
-    numbers(text, "x", &[refusal.number() as u64])
+// The calls of a season over the pile.
+#[derive(Drop)]
+struct Calls<'a> {
+    text: &'a mut String,
+    plan: &'a Plan,
+    draw: &'a mut Generator,
 }
 
-// A pile is a type, so each height of layers is a function of its own.
-
-fn third<K: Kind + Drop>(
-    heap: Global,
-    text: &mut String,
-    plan: &Plan,
-    draw: &mut Generator,
-    pile: K,
-) -> Result<(), AllocError> {
-    match plan.layers[2] {
-        Layer::None => calls_text(heap, text, plan, draw, pile),
-        Layer::Allowance(amount) => match Allowance::new(amount, pile) {
-            Ok(higher) => calls_text(heap, text, plan, draw, higher),
-            Err(refusal) => unmade(text, &refusal),
-        },
-        Layer::Finishes(count) => match Finishes::new(count, pile) {
-            Ok(higher) => calls_text(heap, text, plan, draw, higher),
-            Err(refusal) => unmade(text, &refusal),
-        },
+impl Plan {
+    // The heading but for the standing cost, which a packer tells.
+    fn heading<K: Kind>(&self, pile: &K) -> anyhow::Result<HeadingLine> {
+        let (k, limit) = match self.kind {
+            KindName::Bars => (self.k, 0),
+            KindName::Totes => (self.k, self.limit),
+            KindName::Strips => (0, 0),
+        };
+        Ok(HeadingLine {
+            code: K::kind_code(),
+            capacity: self.capacity,
+            k: u8::try_from(k)?,
+            limit: u8::try_from(limit)?,
+            allowance: self.allowances,
+            finishes: self.finishes,
+            unit: pile.unit(),
+            ceiling: pile.ceiling(),
+            standing: 0,
+        })
     }
 }
 
-fn second<K: Kind + Drop>(
-    heap: Global,
-    text: &mut String,
-    plan: &Plan,
-    draw: &mut Generator,
-    pile: K,
-) -> Result<(), AllocError> {
-    match plan.layers[1] {
-        Layer::None => calls_text(heap, text, plan, draw, pile),
-        Layer::Allowance(amount) => match Allowance::new(amount, pile) {
-            Ok(higher) => third(heap, text, plan, draw, higher),
-            Err(refusal) => unmade(text, &refusal),
-        },
-        Layer::Finishes(count) => match Finishes::new(count, pile) {
-            Ok(higher) => third(heap, text, plan, draw, higher),
-            Err(refusal) => unmade(text, &refusal),
-        },
+impl Calls<'_> {
+    fn over<K: Kind + Drop>(self, pile: K) -> anyhow::Result<()> {
+        let Calls { text, plan, draw } = self;
+        let classes = pile.classes();
+        let mut heading = plan.heading(&pile)?;
+        let mut packer = Packer::new(pile);
+        heading.standing = u32::try_from(packer.standing_cost())?;
+        let HeadingLine {
+            code,
+            unit,
+            ceiling,
+            standing,
+            ..
+        } = heading;
+        let mut memory = [0; 64];
+        writeln!(text, "h {code} {classes} {unit} {ceiling} {standing}")?;
+        writeln!(
+            text,
+            "{}",
+            Bytes(written(&Line::Heading(heading), &mut memory)?)
+        )?;
+        let calls = draw.below(50) + 10;
+        for _ in 0..calls {
+            if draw.below(20) == 0 {
+                report_text(text, &packer.report())?;
+            } else {
+                let piece = plan.drawn_piece(draw);
+                let room = if draw.below(25) == 0 {
+                    0
+                } else {
+                    draw.below(3) + 1
+                };
+                let places = Size {
+                    room,
+                    old: draw.below(2),
+                };
+                let room = if draw.below(6) == 0 {
+                    draw.below(2)
+                } else {
+                    draw.below(2) + 2
+                };
+                let closings = Size {
+                    room,
+                    old: draw.below(2),
+                };
+                put_text(text, &mut packer, piece, places, closings)?;
+            }
+        }
+        report_text(text, &packer.report())?;
+        Ok(())
     }
 }
 
-fn first<K: Kind + Drop>(
-    heap: Global,
-    text: &mut String,
-    plan: &Plan,
-    draw: &mut Generator,
-    pile: K,
-) -> Result<(), AllocError> {
-    match plan.layers[0] {
-        Layer::None => calls_text(heap, text, plan, draw, pile),
-        Layer::Allowance(amount) => match Allowance::new(amount, pile) {
-            Ok(higher) => second(heap, text, plan, draw, higher),
-            Err(refusal) => unmade(text, &refusal),
-        },
-        Layer::Finishes(count) => match Finishes::new(count, pile) {
-            Ok(higher) => second(heap, text, plan, draw, higher),
-            Err(refusal) => unmade(text, &refusal),
-        },
+impl Step for Calls<'_> {
+    fn go<K: Kind + Drop>(self, made: Result<K, MakeRefusal>) -> anyhow::Result<()> {
+        match made {
+            Ok(pile) => self.over(pile),
+            Err(refusal) => {
+                writeln!(self.text, "x {}", refusal.number())?;
+                Ok(())
+            }
+        }
     }
 }
 
 // Season number s.
-pub(crate) fn season(heap: Global, text: &mut String, s: u64) -> Result<(), AllocError> {
-    let mut draw = Generator::seeded(s);
+pub(crate) fn season(text: &mut String, s: u32) -> anyhow::Result<()> {
+    let mut draw = Generator::seeded(s as u64);
     let plan = Plan::drawn(s, &mut draw);
-    numbers(text, "s", &[s])?;
-    match plan.code {
-        1 => match Bars::new(plan.capacity, plan.k) {
-            Ok(bars) => first(heap, text, &plan, &mut draw, bars),
-            Err(refusal) => unmade(text, &refusal),
+    writeln!(text, "s {s}")?;
+    let [first, second, third] = plan.layers;
+    let calls = Calls {
+        text,
+        plan: &plan,
+        draw: &mut draw,
+    };
+    let step = Over {
+        layer: first,
+        next: Over {
+            layer: second,
+            next: Over {
+                layer: third,
+                next: calls,
+            },
         },
-        2 => match Totes::new(plan.capacity, plan.k, plan.limit) {
-            Ok(totes) => first(heap, text, &plan, &mut draw, totes),
-            Err(refusal) => unmade(text, &refusal),
-        },
-        _ => match Strips::new(plan.capacity) {
-            Ok(strips) => first(heap, text, &plan, &mut draw, strips),
-            Err(refusal) => unmade(text, &refusal),
-        },
+    };
+    match plan.kind {
+        KindName::Bars => step.go(Bars::new(plan.capacity, plan.k)),
+        KindName::Totes => step.go(Totes::new(plan.capacity, plan.k, plan.limit)),
+        KindName::Strips => step.go(Strips::new(plan.capacity)),
     }
 }
 
@@ -321,16 +270,15 @@ impl Long {
         })
     }
 
-    pub(crate) fn put(&mut self, heap: Global, text: &mut String) -> Result<(), AllocError> {
+    pub(crate) fn put(&mut self, text: &mut String) -> anyhow::Result<()> {
         let piece = Piece {
             number: self.number % 1_000 + 1,
-            first: self.draw.below_u32(1_000).wrapping_add(1),
+            first: self.draw.below(1_000) + 1,
             second: 0,
             finish: 0,
         };
         self.number = self.number.wrapping_add(1);
         put_text(
-            heap,
             text,
             &mut self.packer,
             piece,

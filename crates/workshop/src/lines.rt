@@ -1,90 +1,120 @@
 // Archive lines: written, shown as bytes, read back.
+ghost use Rattle.std.specs.Prelude.{length};
+ghost use Rattle.std.specs.Iterator.{at_most};
+
 use archive::line::{ClosingLine, HeadingLine, Line, PlaceLine};
 use archive::reader::read;
 use archive::writer::write;
-use std::io;
+use refusals::{Refusal, WriteRefusal};
+use std::{fmt, io};
 
-fn show_fields(rt: &impl Print, line: &Line) -> io::Result<()> {
-    match line {
-        Line::Place(l) => {
-            let PlaceLine {
-                number,
-                first,
-                second,
-                finish,
-                container,
-                class,
-            } = *l;
-            println!(rt;
-                "  place: number {number}, first measure {first}, second measure {second}, finish {finish}, container {container}, class {class}"
-            )
-        }
-        Line::Closing(l) => {
-            let ClosingLine {
-                container,
-                class,
-                pieces,
-                level,
-                weight,
-                used,
-                floor,
-            } = *l;
-            println!(rt;
-                "  closing: container {container}, class {class}, pieces {pieces}, level {level}, weight {weight}, used cost {used}, floor {floor}"
-            )
-        }
-        Line::Heading(l) => {
-            let HeadingLine {
-                code,
-                capacity,
-                k,
-                limit,
-                allowance,
-                finishes,
-                unit,
-                ceiling,
-                standing,
-            } = *l;
-            println!(rt;
-                "  heading: kind code {code}, capacity {capacity}, class number {k}, piece limit {limit}, allowance {allowance}, finishes {finishes}, unit {unit}, ceiling {ceiling}, standing cost {standing}"
-            )
+// A line with the names of its fields.
+#[derive(Drop)]
+struct Named<'a>(&'a Line);
+
+impl fmt::Display for Named<'_> {
+    fn fmt<W: fmt::Write>(&self, f: &mut fmt::Formatter<W>) -> fmt::Result {
+        match *self.0 {
+            Line::Place(
+                PlaceLine {
+                    number,
+                    first,
+                    second,
+                    finish,
+                    container,
+                    class,
+                },
+            ) => write!(
+                f,
+                "place: number {number}, first measure {first}, second measure {second}, finish {finish}, container {container}, class {class}"
+            ),
+            Line::Closing(
+                ClosingLine {
+                    container,
+                    class,
+                    pieces,
+                    level,
+                    weight,
+                    used,
+                    floor,
+                },
+            ) => write!(
+                f,
+                "closing: container {container}, class {class}, pieces {pieces}, level {level}, weight {weight}, used cost {used}, floor {floor}"
+            ),
+            Line::Heading(
+                HeadingLine {
+                    code,
+                    capacity,
+                    k,
+                    limit,
+                    allowance,
+                    finishes,
+                    unit,
+                    ceiling,
+                    standing,
+                },
+            ) => write!(
+                f,
+                "heading: kind code {code}, capacity {capacity}, class number {k}, piece limit {limit}, allowance {allowance}, finishes {finishes}, unit {unit}, ceiling {ceiling}, standing cost {standing}"
+            ),
         }
     }
 }
 
-fn show_bytes(rt: &impl Print, bytes: &[u8]) -> io::Result<()> {
-    print!(rt; "   ")?;
-    for byte in bytes {
-        print!(rt; " {byte:02x}")?;
+// Bytes in hexadecimal, a space before each.
+#[derive(Drop)]
+struct Spaced<'a>(&'a [u8]);
+
+impl fmt::Display for Spaced<'_> {
+    fn fmt<W: fmt::Write>(&self, f: &mut fmt::Formatter<W>) -> fmt::Result {
+        self.0.iter().try_for_each(|byte| write!(f, " {byte:02x}"))
     }
-    println!(rt; "")
 }
 
-// Whether the bytes read as the line, whatever stands behind it.
-fn agrees(bytes: &[u8], line: &Line, length: usize) -> bool {
-    match read(bytes) {
-        Ok((back, n)) => back == *line && n == length,
-        Err(_) => false,
+// The bytes of a line, which memory has behind the call.
+pub(crate) fn stored<'a>(line: &Line, memory: &'a mut [u8]) -> Result<&'a [u8], WriteRefusal> {
+    let length = write(line, memory)?;
+    Ok(&memory[..length])
+}
+
+// The lines that the bytes begin with, one after another. What is left behind the last is no line.
+#[derive(Drop)]
+pub(crate) struct Reading<'a> {
+    pub(crate) rest: &'a [u8],
+}
+
+impl Iterator for Reading<'_> {
+    type Item = Line;
+
+    ghost remaining = { λ s. at_most (length s.rest.now) };
+
+    fn next(&mut self) -> Option<Line> {
+        let Ok((line, length)) = read(self.rest) else {
+            return None;
+        };
+        self.rest = &self.rest[length..];
+        Some(line)
     }
 }
 
 fn show_line(rt: &impl Print, line: &Line) -> io::Result<()> {
     let mut memory = [0xeeu8; 48];
-    show_fields(rt, line)?;
-    match write(line, &mut memory) {
-        Ok(length) => {
-            if length <= 48 {
-                show_bytes(rt, &memory[0..length])?;
-            }
-            if agrees(&memory, line, length) {
+    println!(rt; "  {}", Named(line))?;
+    match stored(line, &mut memory) {
+        Ok(bytes) => {
+            let length = bytes.len();
+            println!(rt; "   {}", Spaced(bytes))?;
+            // whatever stands behind them
+            if read(&memory) == Ok((*line, length)) {
                 println!(rt; "    {length} bytes, which read back as the same line.")
             } else {
                 println!(rt; "    {length} bytes, which do NOT read back.")
             }
         }
         Err(refusal) => {
-            let needed = refusal.needed;
-            println!(rt; "    Refused with 12: it needs {needed} bytes.")
+            let number = refusal.number();
+            println!(rt; "    Refused with {number}: {refusal}.")
         }
     }
 }
@@ -131,9 +161,9 @@ pub(crate) fn archive_lines(rt: &impl Print) -> io::Result<()> {
 fn spoilt_line(rt: &impl Print) -> io::Result<()> {
     let bytes = [0u8, 1, 0, 0, 0, 0];
     println!(rt; "  Spoilt bytes")?;
-    show_bytes(rt, &bytes)?;
+    println!(rt; "   {}", Spaced(&bytes))?;
     match read(&bytes) {
-        Ok((line, _)) => show_fields(rt, &line),
+        Ok((line, _)) => println!(rt; "  {}", Named(&line)),
         Err(refusal) => {
             let number = refusal.number();
             println!(rt; "    Refused with {number}: a field that is present must not be 0.")

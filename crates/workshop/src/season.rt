@@ -1,8 +1,6 @@
 // A season from beginning to end: a pile, its heading, pieces one by one, the report, the archive.
-use anyhow::anyhow;
+use crate::lines::{Reading, stored};
 use archive::line::{ClosingLine, HeadingLine, Line, NO_CLOSING, NO_PLACE};
-use archive::reader::read;
-use archive::writer::write;
 use kinds::Kind;
 use kinds::bars::Bars;
 use kinds::piece::Piece;
@@ -11,28 +9,66 @@ use layers::finishes::Finishes;
 use ledger::{Placing, Report};
 use packer::Packer;
 use packer::lines::Lines;
-use refusals::{MakeRefusal, PutRefusal};
-use std::alloc::{AllocError, Global};
+use refusals::{MakeRefusal, PutRefusal, Refusal};
 
 type Pile = Finishes<Allowance<Bars>>;
 
-fn pile() -> Result<Pile, MakeRefusal> {
+// A pile: two finishes over a saw cut of 4 over bars.
+pub(crate) fn finished_bars() -> Result<Pile, MakeRefusal> {
     Finishes::new(2, Allowance::new(4, Bars::new(6000, 3)?)?)
 }
 
-// Puts a line behind the bytes that the archive has.
-fn store(heap: Global, archive: &mut Vec<u8>, line: &Line) -> Result<(), AllocError> {
-    let mut memory = [0u8; 48];
-    let length = match write(line, &mut memory) {
-        Ok(length) => length,
-        Err(_) => 0,
-    };
-    let mut bytes = Vec::from_slice(heap, &memory)?;
-    bytes.truncate(length);
-    archive.extend_from_slice(bytes.as_slice())
+// A packer, and the bytes of its archive.
+#[derive(Drop)]
+struct Season {
+    packer: Packer<Pile>,
+    archive: Vec<u8>,
 }
 
-fn show_closing(rt: &HostRuntime, closing: &ClosingLine, why: &str) -> anyhow::Result<()> {
+impl Season {
+    // Puts a line behind the bytes that the archive has.
+    fn store(&mut self, line: &Line) -> anyhow::Result<()> {
+        let mut memory = [0u8; 48];
+        self.archive.extend_from_slice(stored(line, &mut memory)?)?;
+        Ok(())
+    }
+
+    // One put, with a note of what it did; its lines go into the archive.
+    fn put(&mut self, rt: &impl Print, piece: Piece) -> anyhow::Result<()> {
+        let mut place_memory = [NO_PLACE; 1];
+        let mut closing_memory = [NO_CLOSING; 2];
+        let mut places = Lines::new(&mut place_memory);
+        let mut closings = Lines::new(&mut closing_memory);
+        let answer = self.packer.put(piece, &mut places, &mut closings);
+        show_answer(rt, &piece, &answer)?;
+        for place in places.view() {
+            self.store(&Line::Place(*place))?;
+        }
+        for closing in closings.view() {
+            self.store(&Line::Closing(*closing))?;
+        }
+        Ok(())
+    }
+
+    // Reads the archive from its start, line by line, to its end.
+    fn read_back(&self, rt: &impl Print) -> anyhow::Result<()> {
+        let size = self.archive.len();
+        let mut stored = Reading {
+            rest: self.archive.as_slice(),
+        };
+        let lines = stored.by_ref().count();
+        match stored.rest.len() {
+            0 => println!(rt; "  The archive has {size} bytes, which read back as {lines} lines.")?,
+            left => {
+                let at = size.saturating_sub(left);
+                println!(rt; "  The archive does NOT read back: {at} of {size} bytes.")?;
+            }
+        }
+        Ok(())
+    }
+}
+
+fn show_closing(rt: &impl Print, closing: &ClosingLine, why: &str) -> anyhow::Result<()> {
     let ClosingLine {
         container,
         class: _,
@@ -50,7 +86,7 @@ fn show_closing(rt: &HostRuntime, closing: &ClosingLine, why: &str) -> anyhow::R
 }
 
 fn show_answer(
-    rt: &HostRuntime,
+    rt: &impl Print,
     piece: &Piece,
     answer: &Result<Placing, PutRefusal>,
 ) -> anyhow::Result<()> {
@@ -62,47 +98,23 @@ fn show_answer(
         Err(refusal) => {
             let why = refusal.number();
             println!(rt; "refused with {why}; nothing changes.")?;
-            Ok(())
         }
         Ok(placing) => {
             let container = placing.container;
             let class = placing.class;
             println!(rt; "bar {container}, class {class}.")?;
-            if let Some(before) = placing.before {
-                show_closing(rt, &before, "since the rail does not fit it")?;
+            if let Some(before) = &placing.before {
+                show_closing(rt, before, "since the rail does not fit it")?;
             }
-            if let Some(after) = placing.after {
-                show_closing(rt, &after, "since it is full")?;
+            if let Some(after) = &placing.after {
+                show_closing(rt, after, "since it is full")?;
             }
-            Ok(())
         }
-    }
-}
-
-// One put, with a note of what it did; its lines go into the archive.
-fn put(
-    rt: &HostRuntime,
-    packer: &mut Packer<Pile>,
-    archive: &mut Vec<u8>,
-    piece: Piece,
-) -> anyhow::Result<()> {
-    let heap = rt.alloc();
-    let mut place_memory = [NO_PLACE; 1];
-    let mut closing_memory = [NO_CLOSING; 2];
-    let mut places = Lines::new(&mut place_memory);
-    let mut closings = Lines::new(&mut closing_memory);
-    let answer = packer.put(piece, &mut places, &mut closings);
-    show_answer(rt, &piece, &answer)?;
-    for place in places.view() {
-        store(heap, archive, &Line::Place(*place))?;
-    }
-    for closing in closings.view() {
-        store(heap, archive, &Line::Closing(*closing))?;
     }
     Ok(())
 }
 
-fn show_report(rt: &HostRuntime, report: &Report, standing: u64) -> anyhow::Result<()> {
+fn show_report(rt: &impl Print, report: &Report, standing: u64) -> anyhow::Result<()> {
     let Report {
         accepted,
         opened,
@@ -123,34 +135,17 @@ fn show_report(rt: &HostRuntime, report: &Report, standing: u64) -> anyhow::Resu
     Ok(())
 }
 
-// Reads the archive from its start, line by line, to its end.
-fn read_back(rt: &HostRuntime, archive: &Vec<u8>) -> anyhow::Result<()> {
-    let mut at = 0usize;
-    let mut lines = 0u32;
-    for _ in 0..archive.len() {
-        if at >= archive.len() {
-            break;
-        }
-        let bytes = archive.as_slice();
-        match read(&bytes[at..bytes.len()]) {
-            Ok((_, length)) => {
-                at = at.saturating_add(length);
-                lines = lines.wrapping_add(1);
-            }
-            Err(_) => break,
-        }
-    }
-    let size = archive.len();
-    if at == size {
-        println!(rt; "  The archive has {size} bytes, which read back as {lines} lines.")?;
-    } else {
-        println!(rt; "  The archive does NOT read back: {at} of {size} bytes.")?;
-    }
-    Ok(())
-}
-
-fn heading(unit: u64, ceiling: u64, standing: u64) -> Line {
-    Line::Heading(HeadingLine {
+pub(crate) fn show_season(rt: &HostRuntime) -> anyhow::Result<()> {
+    let pile = finished_bars()?;
+    let unit = pile.unit();
+    let ceiling = pile.ceiling();
+    println!(rt; "A season: bars of 6000 in three classes, a saw cut of 4, two finishes")?;
+    let mut season = Season {
+        packer: Packer::new(pile),
+        archive: Vec::new(rt.alloc()),
+    };
+    let standing = season.packer.standing_cost();
+    season.store(&Line::Heading(HeadingLine {
         code: Pile::kind_code(),
         capacity: 6000,
         k: 3,
@@ -159,22 +154,8 @@ fn heading(unit: u64, ceiling: u64, standing: u64) -> Line {
         finishes: 2,
         unit,
         ceiling,
-        standing: (standing & 0xffff_ffff) as u32,
-    })
-}
-
-pub(crate) fn season(rt: &HostRuntime) -> anyhow::Result<()> {
-    let Ok(pile) = pile() else {
-        return Err(anyhow!("the pile was refused"));
-    };
-    let heap = rt.alloc();
-    let mut archive = Vec::new(heap);
-    let unit = pile.unit();
-    let ceiling = pile.ceiling();
-    println!(rt; "A season: bars of 6000 in three classes, a saw cut of 4, two finishes")?;
-    let mut packer = Packer::new(pile);
-    let standing = packer.standing_cost();
-    store(heap, &mut archive, &heading(unit, ceiling, standing))?;
+        standing: u32::try_from(standing)?,
+    }))?;
     println!(rt; "  Heading: unit {unit}, ceiling {ceiling}, standing cost {standing}.")?;
     for (number, first, finish) in [
         (1, 3500, 0),
@@ -195,8 +176,8 @@ pub(crate) fn season(rt: &HostRuntime) -> anyhow::Result<()> {
             second: 0,
             finish,
         };
-        put(rt, &mut packer, &mut archive, piece)?;
+        season.put(rt, piece)?;
     }
-    show_report(rt, &packer.report(), standing)?;
-    read_back(rt, &archive)
+    show_report(rt, &season.packer.report(), standing)?;
+    season.read_back(rt)
 }
