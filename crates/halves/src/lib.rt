@@ -8,7 +8,7 @@ ghost use Rattle.ledger.specs.Season.{Season};
 ghost use Rattle.halves.specs.Halving.{sized, halves};
 ghost use Rattle.halves.specs.HalfLaws.{halves_lawful};
 
-use archive::line::{NO_CLOSING, NO_PLACE};
+use archive::line::{ClosingLine, PlaceLine};
 use kinds::Kind;
 use kinds::piece::Piece;
 use ledger::{Placing, Report};
@@ -96,8 +96,8 @@ pub fn two_puts(
 )
     ensures { Season halves (a_put p result.0 ∷ a_put q result.1 ∷ []) result.2 }
 {
-    let mut place_memory = [NO_PLACE; 2];
-    let mut closing_memory = [NO_CLOSING; 4];
+    let mut place_memory = [PlaceLine::default(); 2];
+    let mut closing_memory = [ClosingLine::default(); 4];
     let mut places = Lines::new(&mut place_memory);
     let mut closings = Lines::new(&mut closing_memory);
     let mut packer = Packer::new(Halves);
@@ -110,7 +110,6 @@ pub fn two_puts(
 #[cfg(test)]
 mod tests {
     use super::*;
-    use archive::line::ClosingLine;
     use kinds::bars::Bars;
     use kinds::strips::Strips;
     use layers::allowance::Allowance;
@@ -210,12 +209,12 @@ mod tests {
     // One half, then a whole: it does not fit, and fills its own container, so two close at once.
     #[test]
     fn two_closings(rt: HostRuntime) -> Result<(), Fail> {
-        let mut place_memory = [NO_PLACE; 3];
-        let mut closing_memory = [NO_CLOSING; 3];
+        let mut place_memory = [PlaceLine::default(); 3];
+        let mut closing_memory = [ClosingLine::default(); 3];
         let mut places = Lines::new(&mut place_memory);
         let mut closings = Lines::new(&mut closing_memory);
         let mut packer = Packer::new(Halves);
-        assert_eq!(rt; closings.add(NO_CLOSING), true);
+        assert_eq!(rt; closings.add(ClosingLine::default()).is_ok(), true);
         assert_eq!(rt;
             packer
                 .put(piece(1, 0, 0), &mut places, &mut closings)
@@ -250,9 +249,9 @@ mod tests {
     // A list with too little room refuses, and nothing changes.
     #[test]
     fn short_lists(rt: HostRuntime) {
-        let mut place_memory = [NO_PLACE; 1];
-        let mut closing_memory = [NO_CLOSING; 1];
-        let mut none = [NO_PLACE; 0];
+        let mut place_memory = [PlaceLine::default(); 1];
+        let mut closing_memory = [ClosingLine::default(); 1];
+        let mut none = [PlaceLine::default(); 0];
         let mut packer = Packer::new(Halves);
         let mut closings = Lines::new(&mut closing_memory);
         let mut nowhere = Lines::new(&mut none);
@@ -269,8 +268,8 @@ mod tests {
             refused(packer.put(piece(1, 0, 0), &mut places, &mut closings)),
             0
         );
-        assert_eq!(rt; places.add(NO_PLACE), false);
-        let mut more_memory = [NO_PLACE; 1];
+        assert_eq!(rt; places.add(PlaceLine::default()).is_ok(), false);
+        let mut more_memory = [PlaceLine::default(); 1];
         let mut more = Lines::new(&mut more_memory);
         assert_eq!(rt;
             refused(packer.put(piece(2, 0, 0), &mut more, &mut closings)),

@@ -13,7 +13,7 @@ pub mod lines;
 use archive::line::{ClosingLine, PlaceLine};
 use kinds::Kind;
 use kinds::piece::Piece;
-use ledger::{Bank, Ledger, NOTHING, Placing, Report, Slot};
+use ledger::{Bank, Ledger, Placing, Report, Slot};
 use lines::Lines;
 use refusals::{PieceRefusal, PutRefusal};
 
@@ -208,7 +208,7 @@ impl<K: Kind> Packer<K> {
                 before: closes.then(|| closing(&found)),
                 after: full.then(|| closing(&taken)),
             },
-            slot: if full { NOTHING } else { taken },
+            slot: if full { Slot::default() } else { taken },
             opened,
             used,
             weight,
