@@ -1,19 +1,16 @@
--- What is added up over the classes, and a floor by rounding up. Assumes nothing.
-use Rattle.std.proofs.Common.{◌≡◌, ℕ, zero, suc, ◌+◌, ◌-◌, ◌/◌, ◌%◌, ◌^◌, ◌<◌, ◌≤◌, ◌⊎◌, [], ◌∷◌, ◌++◌, min, sum_by, refl, ap, ◌∙◌, inl, inr, mul-le-mul_right, one-mul, arith}
+-- What is added up over the classes. Assumes nothing.
+use Rattle.std.proofs.Common.{◌≡◌, ℕ, zero, suc, ◌+◌, ◌-◌, ◌^◌, ◌<◌, ◌≤◌, ◌⊎◌, [], ◌∷◌, ◌++◌, sum_by, refl, ap, ◌∙◌, inl, inr, mul-le-mul_right, one-mul, arith}
 use Rattle.std.specs.List.{range_with_len}
-use Rattle.std.proofs.Math.Nat.{lt_of_mul-lt-mul_right}
 use Rattle.std.proofs.lemmas.List.Sums.{sum_by-le}
 use Rattle.std.proofs.lemmas.List.FromFn.{length-range_with_len}
-use Rattle.std.proofs.lemmas.Grind.{div_ceil_times}
 use Rattle.std.proofs.lemmas.Bool.{cases_lt, cond_both}
 use Rattle.kinds.specs.Kind.{Meaning, Lawful, ClassOf, between}
 use Rattle.ledger.specs.declared.Ledger.{Ledger}
-use Rattle.ledger.specs.Rules.{upto, floor_of, nothing, open_cost}
+use Rattle.ledger.specs.Rules.{upto, nothing, open_cost}
 use Rattle.ledger.proofs.Uptos.{sum_same}
 use Rattle.ledger.proofs.Sound.{open_cost_in}
 use Rattle.kinds.specs.Told.{is_between}
 use Rattle.std.specs.Prelude.{if◌then◌else◌, nat_eq, slice_index_or, cond, not}
-use Rattle.ledger.proofs.Floors.{floor_covers, floor_least}
 
 range_more : (a n : ℕ) → range_with_len a (suc n) ≡ range_with_len a n ++ ((a + n) ∷ [])
 range_more a zero = ap (λ k. k ∷ []) (omega arith)
@@ -52,15 +49,6 @@ any_standing m law c =
       | inl k ↦ elim (law.standing_none_or_cost c k) [ inl z ↦ omega (arith, z) | inr e ↦ omega (arith, e, any_cost m law c) ]
       | inr n ↦ omega (arith, (law.no_class_tells_nothing c n).1)
     ]
-
--- std's rounding up is the floor's
-pub rounds_up : (c w : ℕ) → 1 ≤ c → w / c + min 1 (w % c) ≡ floor_of c w
-rounds_up c w some =
-    let n : ℕ = w / c + min 1 (w % c) in
-    let t = div_ceil_times w c some in
-    let low : floor_of c w ≤ n = floor_least c w n some (omega (arith, t.0)) in
-    let high : n < floor_of c w + 1 = lt_of_mul-lt-mul_right c (omega (arith, t.1, floor_covers c w some)) in
-    omega (arith, low, high)
 
 -- what a class brings to the cost of what is open, as the code asks
 abbrev pub open_in_class : Meaning → Ledger → ℕ → ℕ
