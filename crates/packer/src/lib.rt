@@ -289,13 +289,8 @@ impl<K: Kind> Packer<K> {
         ensures { result ≡ open_cost (K.meaning self.now.kind) self.now.ledger }
     {
         (1..105u8)
-            .map(|class| {
-                if self.ledger.bank.at(class).count != 0 {
-                    self.cost(class)
-                } else {
-                    0
-                }
-            })
+            .filter(|class| self.ledger.bank.at(*class).count != 0)
+            .map(|class| self.cost(class))
             .sum()
     }
 
