@@ -1,4 +1,4 @@
-// A sort of line: its tag, the widths of its fields, and a line as numbers and back.
+// What a sort of line is: its tag, the widths of its fields, and a line as numbers and back.
 ghost use Rattle.std.specs.Prelude.{◌≡◌, ℕ, ◌<◌, ◌≤◌, List, All, length, refl};
 ghost use Rattle.std.proofs.Common.{ap, lit<, lit≤};
 ghost use Rattle.archive.specs.declared.line.Line.{Line};
@@ -15,10 +15,10 @@ pub(crate) trait Sort<const N: usize>: Into<Line> {
 
     ghost fields: { List (Field Self) };
 
-    // the top two bits of the map
+    // The top two bits of the map.
     const TAG: u16;
 
-    // in bytes
+    // The fields' widths in bytes.
     const WIDTHS: [u8; N];
 
     fn values(&self) -> [u64; N]
@@ -29,21 +29,25 @@ pub(crate) trait Sort<const N: usize>: Into<Line> {
         requires { Fit WIDTHS values.now }
         ensures { values_of fields result ≡ values.now };
 
+    // There is no fourth sort.
     ghost known: { TAG < 3 };
 
+    // The map has a bit for each field.
     ghost few: { N ≤ 14 };
 
     ghost many: { length WIDTHS ≡ N };
 
+    // A value is a u64.
     ghost narrow: { All (λ w. w ≤ 8) WIDTHS };
 
     ghost widths: { widths_by TAG ≡ WIDTHS };
 
+    // A line of this sort says so, and has its values.
     ghost is_line: { (x : Self) (l : Line) → Self.converts x l → (tag l ≡ TAG) × (values_in l ≡ values_of fields x) };
 }
 
 impl Sort<6> for PlaceLine {
-    ghost use Rattle.archive.specs.Sorts.{narrow_place};
+    ghost use Rattle.archive.specs.SortLaws.{narrow_place};
 
     ghost TAG = { 0 };
 
@@ -92,7 +96,7 @@ impl Sort<6> for PlaceLine {
 }
 
 impl Sort<7> for ClosingLine {
-    ghost use Rattle.archive.specs.Sorts.{narrow_closing};
+    ghost use Rattle.archive.specs.SortLaws.{narrow_closing};
 
     ghost TAG = { 1 };
 
@@ -122,7 +126,7 @@ impl Sort<7> for ClosingLine {
             self.class as u64,
             self.pieces as u64,
             self.level as u64,
-            // a call, so that the check knows the number to be below 2 ^ 64
+            // a call, from whose type the check knows that this is below 2 ^ 64
             u64::from(self.weight),
             u64::from(self.used),
             u64::from(self.floor),
@@ -144,7 +148,7 @@ impl Sort<7> for ClosingLine {
 }
 
 impl Sort<9> for HeadingLine {
-    ghost use Rattle.archive.specs.Sorts.{narrow_heading};
+    ghost use Rattle.archive.specs.SortLaws.{narrow_heading};
 
     ghost TAG = { 2 };
 
@@ -176,7 +180,7 @@ impl Sort<9> for HeadingLine {
             self.limit as u64,
             self.allowance as u64,
             self.finishes as u64,
-            // a call, so that the check knows the number to be below 2 ^ 64
+            // a call, from whose type the check knows that this is below 2 ^ 64
             u64::from(self.unit),
             u64::from(self.ceiling),
             self.standing as u64,
