@@ -257,7 +257,6 @@ pub(crate) fn season(text: &mut String, s: u32) -> anyhow::Result<()> {
 pub struct Long {
     packer: Packer<Bars>,
     draw: Generator,
-    number: u32,
 }
 
 impl Long {
@@ -266,18 +265,17 @@ impl Long {
         Ok(Long {
             packer: Packer::new(bars),
             draw: Generator::seeded(2_400),
-            number: 0,
         })
     }
 
-    pub(crate) fn put(&mut self, text: &mut String) -> anyhow::Result<()> {
+    // Put number i.
+    pub(crate) fn put(&mut self, text: &mut String, i: u32) -> anyhow::Result<()> {
         let piece = Piece {
-            number: self.number % 1_000 + 1,
+            number: i % 1_000 + 1,
             first: self.draw.below(1_000) + 1,
             second: 0,
             finish: 0,
         };
-        self.number = self.number.wrapping_add(1);
         put_text(
             text,
             &mut self.packer,

@@ -41,11 +41,10 @@ impl Season {
         let mut closings = Lines::new(&mut closing_memory);
         let answer = self.packer.put(piece, &mut places, &mut closings);
         show_answer(rt, &piece, &answer)?;
-        for place in places.view() {
-            self.store(&Line::Place(*place))?;
-        }
-        for closing in closings.view() {
-            self.store(&Line::Closing(*closing))?;
+        let places = places.view().iter().copied().map(Line::Place);
+        let closings = closings.view().iter().copied().map(Line::Closing);
+        for line in places.chain(closings) {
+            self.store(&line)?;
         }
         Ok(())
     }
