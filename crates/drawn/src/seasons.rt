@@ -102,6 +102,28 @@ fn report_text(text: &mut String, report: &Report) -> Result<(), AllocError> {
     )
 }
 
+impl Plan {
+    // The heading but for the standing cost, which a packer tells.
+    fn heading<K: Kind>(&self, pile: &K) -> anyhow::Result<HeadingLine> {
+        let (k, limit) = match self.kind {
+            KindName::Bars => (self.k, 0),
+            KindName::Totes => (self.k, self.limit),
+            KindName::Strips => (0, 0),
+        };
+        Ok(HeadingLine {
+            code: K::kind_code(),
+            capacity: self.capacity,
+            k: u8::try_from(k)?,
+            limit: u8::try_from(limit)?,
+            allowance: self.allowances,
+            finishes: self.finishes,
+            unit: pile.unit(),
+            ceiling: pile.ceiling(),
+            standing: 0,
+        })
+    }
+}
+
 // What comes next of a pile that was made or refused. A pile is a type of its own.
 trait Step {
     fn go<K: Kind + Drop>(self, made: Result<K, MakeRefusal>) -> anyhow::Result<()>;
@@ -135,28 +157,6 @@ struct Calls<'a> {
     text: &'a mut String,
     plan: &'a Plan,
     draw: &'a mut Generator,
-}
-
-impl Plan {
-    // The heading but for the standing cost, which a packer tells.
-    fn heading<K: Kind>(&self, pile: &K) -> anyhow::Result<HeadingLine> {
-        let (k, limit) = match self.kind {
-            KindName::Bars => (self.k, 0),
-            KindName::Totes => (self.k, self.limit),
-            KindName::Strips => (0, 0),
-        };
-        Ok(HeadingLine {
-            code: K::kind_code(),
-            capacity: self.capacity,
-            k: u8::try_from(k)?,
-            limit: u8::try_from(limit)?,
-            allowance: self.allowances,
-            finishes: self.finishes,
-            unit: pile.unit(),
-            ceiling: pile.ceiling(),
-            standing: 0,
-        })
-    }
 }
 
 impl Calls<'_> {
