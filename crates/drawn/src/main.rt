@@ -53,9 +53,9 @@ fn long_season(rt: &HostRuntime) -> anyhow::Result<()> {
     let mut long = Long::new()?;
     let mut sum = START;
     let mut last = String::new(heap);
-    for _ in 0..100_001 {
+    for i in 0..=100_000 {
         last.clear();
-        long.put(&mut last)?;
+        long.put(&mut last, i)?;
         sum = sum_of(sum, last.as_str());
     }
     let mut report = String::new(heap);

@@ -174,7 +174,7 @@ fn set_byte(bytes: &mut Vec<u8>, at: usize, value: u8) {
     }
 }
 
-// One of six harms, the first of them none.
+// One of six harms, the first of them none. What is drawn is a number, and no two harms draw alike.
 fn harm(bytes: &mut Vec<u8>, draw: &mut Generator) -> Result<(), AllocError> {
     let length = bytes.len() as u64;
     match draw.below(6) {

@@ -102,6 +102,28 @@ fn report_text(text: &mut String, report: &Report) -> Result<(), AllocError> {
     )
 }
 
+impl Plan {
+    // The heading but for the standing cost, which a packer tells.
+    fn heading<K: Kind>(&self, pile: &K) -> anyhow::Result<HeadingLine> {
+        let (k, limit) = match self.kind {
+            KindName::Bars => (self.k, 0),
+            KindName::Totes => (self.k, self.limit),
+            KindName::Strips => (0, 0),
+        };
+        Ok(HeadingLine {
+            code: K::kind_code(),
+            capacity: self.capacity,
+            k: u8::try_from(k)?,
+            limit: u8::try_from(limit)?,
+            allowance: self.allowances,
+            finishes: self.finishes,
+            unit: pile.unit(),
+            ceiling: pile.ceiling(),
+            standing: 0,
+        })
+    }
+}
+
 // What comes next of a pile that was made or refused. A pile is a type of its own.
 trait Step {
     fn go<K: Kind + Drop>(self, made: Result<K, MakeRefusal>) -> anyhow::Result<()>;
@@ -135,28 +157,6 @@ struct Calls<'a> {
     text: &'a mut String,
     plan: &'a Plan,
     draw: &'a mut Generator,
-}
-
-impl Plan {
-    // The heading but for the standing cost, which a packer tells.
-    fn heading<K: Kind>(&self, pile: &K) -> anyhow::Result<HeadingLine> {
-        let (k, limit) = match self.kind {
-            KindName::Bars => (self.k, 0),
-            KindName::Totes => (self.k, self.limit),
-            KindName::Strips => (0, 0),
-        };
-        Ok(HeadingLine {
-            code: K::kind_code(),
-            capacity: self.capacity,
-            k: u8::try_from(k)?,
-            limit: u8::try_from(limit)?,
-            allowance: self.allowances,
-            finishes: self.finishes,
-            unit: pile.unit(),
-            ceiling: pile.ceiling(),
-            standing: 0,
-        })
-    }
 }
 
 impl Calls<'_> {
@@ -257,7 +257,6 @@ pub(crate) fn season(text: &mut String, s: u32) -> anyhow::Result<()> {
 pub struct Long {
     packer: Packer<Bars>,
     draw: Generator,
-    number: u32,
 }
 
 impl Long {
@@ -266,18 +265,17 @@ impl Long {
         Ok(Long {
             packer: Packer::new(bars),
             draw: Generator::seeded(2_400),
-            number: 0,
         })
     }
 
-    pub(crate) fn put(&mut self, text: &mut String) -> anyhow::Result<()> {
+    // Put number i.
+    pub(crate) fn put(&mut self, text: &mut String, i: u32) -> anyhow::Result<()> {
         let piece = Piece {
-            number: self.number % 1_000 + 1,
+            number: i % 1_000 + 1,
             first: self.draw.below(1_000) + 1,
             second: 0,
             finish: 0,
         };
-        self.number = self.number.wrapping_add(1);
         put_text(
             text,
             &mut self.packer,

@@ -5,7 +5,7 @@ ghost use Rattle.std.specs.Iterator.{at_most};
 use archive::line::{ClosingLine, HeadingLine, Line, PlaceLine};
 use archive::reader::read;
 use archive::writer::write;
-use refusals::{Refusal, WriteRefusal};
+use refusals::Refusal;
 use std::{fmt, io};
 
 // A line with the names of its fields.
@@ -72,12 +72,6 @@ impl fmt::Display for Spaced<'_> {
     }
 }
 
-// The bytes of a line, which memory has behind the call.
-pub(crate) fn stored<'a>(line: &Line, memory: &'a mut [u8]) -> Result<&'a [u8], WriteRefusal> {
-    let length = write(line, memory)?;
-    Ok(&memory[..length])
-}
-
 // The lines that the bytes begin with, one after another. What is left behind the last is no line.
 #[derive(Drop)]
 pub(crate) struct Reading<'a> {
@@ -101,10 +95,9 @@ impl Iterator for Reading<'_> {
 fn show_line(rt: &impl Print, line: &Line) -> io::Result<()> {
     let mut memory = [0xeeu8; 48];
     println!(rt; "  {}", Named(line))?;
-    match stored(line, &mut memory) {
-        Ok(bytes) => {
-            let length = bytes.len();
-            println!(rt; "   {}", Spaced(bytes))?;
+    match write(line, &mut memory) {
+        Ok(length) => {
+            println!(rt; "   {}", Spaced(&memory[..length]))?;
             // whatever stands behind them
             if read(&memory) == Ok((*line, length)) {
                 println!(rt; "    {length} bytes, which read back as the same line.")

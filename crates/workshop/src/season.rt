@@ -1,6 +1,7 @@
 // A season from beginning to end: a pile, its heading, pieces one by one, the report, the archive.
-use crate::lines::{Reading, stored};
+use crate::lines::Reading;
 use archive::line::{ClosingLine, HeadingLine, Line, NO_CLOSING, NO_PLACE};
+use archive::writer::write;
 use kinds::Kind;
 use kinds::bars::Bars;
 use kinds::piece::Piece;
@@ -29,7 +30,8 @@ impl Season {
     // Puts a line behind the bytes that the archive has.
     fn store(&mut self, line: &Line) -> anyhow::Result<()> {
         let mut memory = [0u8; 48];
-        self.archive.extend_from_slice(stored(line, &mut memory)?)?;
+        let length = write(line, &mut memory)?;
+        self.archive.extend_from_slice(&memory[..length])?;
         Ok(())
     }
 
@@ -41,11 +43,10 @@ impl Season {
         let mut closings = Lines::new(&mut closing_memory);
         let answer = self.packer.put(piece, &mut places, &mut closings);
         show_answer(rt, &piece, &answer)?;
-        for place in places.view() {
-            self.store(&Line::Place(*place))?;
-        }
-        for closing in closings.view() {
-            self.store(&Line::Closing(*closing))?;
+        let places = places.view().iter().copied().map(Line::Place);
+        let closings = closings.view().iter().copied().map(Line::Closing);
+        for line in places.chain(closings) {
+            self.store(&line)?;
         }
         Ok(())
     }
@@ -53,11 +54,11 @@ impl Season {
     // Reads the archive from its start, line by line, to its end.
     fn read_back(&self, rt: &impl Print) -> anyhow::Result<()> {
         let size = self.archive.len();
-        let mut stored = Reading {
+        let mut reading = Reading {
             rest: self.archive.as_slice(),
         };
-        let lines = stored.by_ref().count();
-        match stored.rest.len() {
+        let lines = reading.by_ref().count();
+        match reading.rest.len() {
             0 => println!(rt; "  The archive has {size} bytes, which read back as {lines} lines.")?,
             left => {
                 let at = size.saturating_sub(left);
