@@ -1,6 +1,6 @@
 -- Strips are lawful. Assumes nothing.
 use Rattle.std.specs.Prelude.{◌≡◌, ℕ, ◌+◌, ◌-◌, ◌*◌, ◌^◌, ◌<◌, ◌≤◌, Bool, true, false, cond, not, ◌&&◌, ◌⊎◌, List, [], ◌∷◌, ◌++◌, length, Some, None, sum_by, ◌==◌, nat_le, refl}
-use Rattle.std.proofs.Common.{sym, ap, subst, ◌∙◌, inl, inr, mul_comm, mul_assoc, mul-le-mul, mul-le-mul_left, mul-le-mul_right, add-mul, arith, pow_mono, pow_pos}
+use Rattle.std.proofs.Common.{sym, ap, subst, ◌∙◌, inl, inr, mul-le-mul, mul-le-mul_left, mul-le-mul_right, arith, pow_mono, pow_pos}
 use Rattle.std.specs.List.{All}
 use Rattle.std.proofs.lemmas.List.{nil_from_length}
 use Rattle.std.proofs.lemmas.List.Sums.{sum_by-cons, sum_by_push}
@@ -16,7 +16,7 @@ use Rattle.kinds.specs.Ranks.{rank_most, rank_enough, rank_half}
 
 -- a width and a height against a row of twice the one and half the other
 quarter : (a b c h : ℕ) → c ≤ 2 * a → h ≤ 2 * b → c * h ≤ 4 * (a * b)
-quarter a b c h l k = omega (arith, mul-le-mul l k, mul_assoc 2 a (2 * b), mul_assoc a 2 b, mul_comm a 2, mul_assoc 2 a b)
+quarter a b c h l k = omega (arith, mul-le-mul l k)
 
 module _ (C : ℕ) (low : 1 ≤ C) (high : C ≤ 1000000) where
   pub record Sized (p : Piece) : Type 0 where
@@ -107,12 +107,12 @@ module _ (C : ℕ) (low : 1 ≤ C) (high : C ≤ 1000000) where
   area_ok : {c : ℕ} {ps : List Piece} → Built (strips C) c ps → sum_by area ps ≤ level (strips C) ps * row_height c
   area_ok none_yet = omega arith
   area_ok {c} (one_more {ps = ps} {p = p} b a e nf ft) =
-      omega (arith, area_ok b, sum_by_push area ps p, ap (λ n. n * row_height c) (level_push ps p a), add-mul (level (strips C) ps) p.first (row_height c), mul-le-mul_left p.first (row c p a e).tall)
+      omega (arith, area_ok b, sum_by_push area ps p, ap (λ n. n * row_height c) (level_push ps p a), mul-le-mul_left p.first (row c p a e).tall)
 
   heavy_ok : {c : ℕ} {ps : List Piece} → Built (strips C) c ps → 2 * (level (strips C) ps * row_height c) ≤ weights (strips C) ps
   heavy_ok none_yet = omega arith
   heavy_ok {c} (one_more {ps = ps} {p = p} b a e nf ft) =
-      omega (arith, heavy_ok b, weights_push ps p a, ap (λ n. n * row_height c) (level_push ps p a), add-mul (level (strips C) ps) p.first (row_height c), mul-le-mul_left p.first (row c p a e).flat, mul_assoc p.first 2 p.second, mul_comm p.first 2, mul_assoc 2 p.first p.second)
+      omega (arith, heavy_ok b, weights_push ps p a, ap (λ n. n * row_height c) (level_push ps p a), mul-le-mul_left p.first (row c p a e).flat)
 
   wide_heavy : {c : ℕ} {ps : List Piece} → Built (strips C) c ps → narrow c ≡ false → 0 < length ps → C * row_height c ≤ weights (strips C) ps
   wide_heavy none_yet w h = absurd (omega arith)
@@ -163,7 +163,7 @@ module _ (C : ℕ) (low : 1 ≤ C) (high : C ≤ 1000000) where
         | inl n ↦
             let over : C < level (strips C) ps + p.first = leb-false (level (strips C) ps + p.first) C (sym (narrow_fit c _ _ n.0) ∙ un) in
             let half : C ≤ 2 * level (strips C) ps = omega (arith, n.1) in
-            omega (arith, heavy_ok b, mul-le-mul_right (row_height c) half, mul_assoc 2 (level (strips C) ps) (row_height c))
+            omega (arith, heavy_ok b, mul-le-mul_right (row_height c) half)
         | inr w ↦
             let ne : length ps ≡ 0 → ⊥ = eqb-false (length ps) 0 (sym (wide_fit c _ _ w.0 w.1) ∙ un) in
             wide_heavy b w.0 (omega arith)
@@ -197,7 +197,7 @@ module _ (C : ℕ) (low : 1 ≤ C) (high : C ≤ 1000000) where
         wide_heavy b (above 1 13 c (in_between 14 26 c k.0).0) (leb-true 1 (length ps) k.1);
     unfit_weighs_enough = unfit;
     allowed_admitted = λ ps h l a. all_admitted h ps a.0;
-    allowed_weighs_at_most = λ ps h l a. omega (arith, weights_area ps (all_admitted h ps a.0), a.1, mul_assoc 4 C h);
+    allowed_weighs_at_most = λ ps h l a. omega (arith, weights_area ps (all_admitted h ps a.0), a.1);
     full_after_first = λ p a z.
         let c : ℕ = (strips C).class p in
         elim (row c p a refl).sides [

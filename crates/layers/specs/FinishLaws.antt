@@ -1,6 +1,6 @@
 -- Finishes over a lawful kind are lawful. Assumes nothing.
 use Rattle.std.specs.Prelude.{◌≡◌, ℕ, ◌+◌, ◌-◌, ◌*◌, ◌/◌, ◌%◌, ◌<◌, ◌≤◌, Bool, true, false, cond, ◌&&◌, ltb, List, [], ◌∷◌, map, length, get_or, Some, None, sum_by, ◌≢◌, nat_lt, refl}
-use Rattle.std.proofs.Common.{sym, ap, subst, ◌∙◌, inl, inr, div-lt_iff_lt-mul, mod-lt, mul-le-mul_right, one-mul, div-mul-le_self, arith}
+use Rattle.std.proofs.Common.{sym, ap, subst, ◌∙◌, inl, inr, div-lt_iff_lt-mul, mod-lt, mul-le-mul_right, div-mul-le_self, arith}
 use Rattle.std.specs.List.{All}
 use Rattle.std.proofs.lemmas.Nat.{le-div, div-mul-add, mod-mul-add, row_fits}
 use Rattle.std.proofs.lemmas.List.{map_push, length-map}
@@ -155,7 +155,7 @@ module _ (F : ℕ) (m : Meaning) (law : Lawful m) where
 
   pub finishes_by_lawful : 1 ≤ F → F * m.classes ≤ 104 → Lawful (finishes_by F m)
   finishes_by_lawful some few = record {
-    some_class = omega (arith, mul-le-mul_right {m = 1} {n = F} m.classes some, one-mul m.classes, law.some_class);
+    some_class = omega (arith, mul-le-mul_right m.classes some, law.some_class);
     few_classes = few;
     admitted_has_class = in_class;
     refused_tells_nothing = not_admitted_down;

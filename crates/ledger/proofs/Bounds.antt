@@ -1,5 +1,5 @@
 -- No number of a packer outgrows its field. Assumes nothing.
-use Rattle.std.proofs.Common.{◌≡◌, ℕ, ◌+◌, ◌-◌, ◌*◌, ◌^◌, ◌<◌, ◌≤◌, length, get_or, set, replicate, sym, subst, inl, inr, mul-le-mul_right, add-mul, one-mul, arith}
+use Rattle.std.proofs.Common.{◌≡◌, ℕ, ◌+◌, ◌-◌, ◌*◌, ◌^◌, ◌<◌, ◌≤◌, length, get_or, set, replicate, sym, subst, inl, inr, mul-le-mul_right, arith}
 use Rattle.std.proofs.lemmas.List.{get_or-replicate, get_or_past, get_or-set_same, get_or-set_other, length-set}
 use Rattle.std.proofs.lemmas.Bool.{cond_both, cases_lt, cases_eq, leb-true, and_parts}
 use Rattle.kinds.specs.declared.piece.Piece.{Piece}
@@ -15,7 +15,7 @@ class_range m law p a = omega (arith, law.admitted_has_class p a, law.few_classe
 pub cost_bounded : (m : Meaning) → Lawful m → (p : Piece) → Admitted m p → m.cost (m.class p) ≤ 2 ^ 44
 cost_bounded m law p a =
     let r = law.cost_range (m.class p) (law.admitted_has_class p a) in
-    omega (arith, r.1, mul-le-mul_right {m = 1} {n = m.unit} (m.cost (m.class p)) law.unit_some, one-mul (m.cost (m.class p)))
+    omega (arith, r.1, mul-le-mul_right (m.cost (m.class p)) law.unit_some)
 
 -- every slot of a bank with one slot changed
 module _ (s t : Ledger) (b : Bounded s) (grows : s.accepted ≤ t.accepted) (heavier : s.weight ≤ t.weight) (n : ℕ) (x : Slot) (w : Within t x) where
@@ -45,8 +45,7 @@ module _ (m : Meaning) (law : Lawful m) (s : Ledger) (b : Bounded s) (p : Piece)
   bounded_after few =
       let w = law.weight_range p admitted in
       let c = cost_bounded m law p admitted in
-      let t = taking_bounded in
-      let k = add-mul s.accepted 1 (2 ^ 44) in (
+      let t = taking_bounded in (
         omega arith,
         cond_both (goes_on m s p) s.opened (s.opened + 1) (λ n. n ≤ s.accepted + 1) (λ e. omega (arith, b.1)) (λ e. omega (arith, b.1)),
         cond_both (goes_on m s p) s.used (s.used + m.cost (m.class p)) (λ n. n ≤ (s.accepted + 1) * 2 ^ 44) (λ e. omega (arith, b.2)) (λ e. omega (arith, b.2, c)),

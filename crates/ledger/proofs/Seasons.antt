@@ -1,5 +1,5 @@
 -- Every season over a lawful kind keeps its promise. Assumes nothing.
-use Rattle.std.proofs.Common.{◌≡◌, ℕ, suc, ◌+◌, ◌-◌, ◌*◌, ◌<◌, ◌≤◌, Bool, true, false, cond, ◌&&◌, ◌||◌, eqb, ltb, leb, ◌⊎◌, List, [], ◌∷◌, ◌++◌, Some, None, Ok, Err, sum_by, Option, Result, sym, refl, ap, ◌∙◌, subst, inl, inr, mul-le-mul_left, mul-zero, mul-add, add-one, arith}
+use Rattle.std.proofs.Common.{◌≡◌, ℕ, suc, ◌+◌, ◌-◌, ◌*◌, ◌<◌, ◌≤◌, Bool, true, false, cond, ◌&&◌, ◌||◌, eqb, ltb, leb, ◌⊎◌, List, [], ◌∷◌, ◌++◌, Some, None, Ok, Err, sum_by, Option, Result, sym, refl, ap, ◌∙◌, subst, inl, inr, mul-le-mul_left, mul-add, add-one, arith}
 use Rattle.std.specs.List.{flat_map, All}
 use Rattle.std.specs.List.Sorted.{IsPermutation}
 use Rattle.std.proofs.lemmas.List.{get_or-replicate, length_push}
@@ -100,7 +100,7 @@ module _ (m : Meaning) (law : Lawful m) (qs : List Placed) (s : Ledger) (sound :
             let o : Open m qs s.opened (m.class p) (found m s p) = sound.opens (m.class p) is_class.0 is_class.1 up in
             let unfit : m.fits (m.class p) (found m s p).count (found m s p).level p ≡ false = sym (cap_idle up) ∙ subst (λ b. (b && fits_found m s p) ≡ false) up off in
             rw up (omega (arith, o.tells.weight, law.unfit_weighs_enough (m.class p) _ p o.built admitted refl (cc (o.tells.count, o.tells.level, unfit))))
-        | inr down ↦ rw down (omega (arith, mul-zero m.unit))
+        | inr down ↦ rw down (omega arith)
       ]
 
   in_turn_then : numbers (push qs (placed_in m p (fresh s))) ≡ upto (s.opened + 1)
@@ -177,7 +177,7 @@ new_sound m = record {
   used = refl;
   groups = λ n a b. absurd (omega arith);
   opens = λ c a b up. absurd (true≢false (sym up ∙ ap stands (new_down c b)));
-  ratio = omega (arith, mul-zero m.unit);
+  ratio = omega arith;
 }
 
 put_sound : (m : Meaning) → Lawful m → (h : List Call) (s : Ledger) → Sound m (placed h) s → (p : Piece) (a : Result Placing PutRefusal) → Answered m s p a → Sound m (placed (h ++ (a_put p a ∷ []))) (ledger_by m s p a)
@@ -218,7 +218,7 @@ packing_light m law (k ∷ ks) h =
     let first = All-head (AllowedContainer m) k ks h in
     let here : weights m k.pieces ≤ m.ceiling * k.cost = law.allowed_weighs_at_most k.pieces k.cost first.0 first.1 in
     let rest : weights m (flat_map (λ k. k.pieces) ks) ≤ m.ceiling * cost_of ks = packing_light m law ks (All-tail (AllowedContainer m) k ks h) in
-    omega (arith, sum_by-append m.weight k.pieces (flat_map (λ k. k.pieces) ks), ap (λ n. m.ceiling * n) (sum_by-cons (λ k. k.cost) k ks), mul-add m.ceiling k.cost (cost_of ks))
+    omega (arith, sum_by-append m.weight k.pieces (flat_map (λ k. k.pieces) ks), ap (λ n. m.ceiling * n) (sum_by-cons (λ k. k.cost) k ks))
 
 module _ (m : Meaning) (law : Lawful m) (h : List Call) (s : Ledger) (sound : Sound m (placed h) s) where
   no_cheaper : (ks : List Container) → AllowedPacking m (pieces_of (placed h)) ks → floor_of m.ceiling s.weight ≤ cost_of ks
