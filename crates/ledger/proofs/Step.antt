@@ -1,5 +1,5 @@
 -- One accepted put keeps the ledger sound. Assumes nothing.
-use Rattle.std.proofs.Common.{◌≡◌, ℕ, ◌+◌, ◌-◌, ◌*◌, ◌<◌, ◌≤◌, Bool, true, false, cond, not, List, [], ◌∷◌, ◌++◌, length, set, sum_by, sym, refl, ap, ◌∙◌, subst, inl, inr, mul-add, arith}
+use Rattle.std.proofs.Common.{◌≡◌, ℕ, ◌+◌, ◌-◌, ◌*◌, ◌<◌, ◌≤◌, Bool, true, false, cond, not, List, [], ◌∷◌, ◌++◌, length, set, sum_by, sym, refl, ap, ◌∙◌, subst, inl, inr, arith}
 use Rattle.std.specs.List.{All}
 use Rattle.std.proofs.lemmas.List.{length-set, get_or-set_same, get_or-set_other, length_push, map_push}
 use Rattle.std.proofs.lemmas.List.Elements.{All-push, All-weaker}
@@ -33,9 +33,9 @@ after_by m s p x top used = record {
   weight = s.weight + m.weight p;
 }
 
--- the ratio's step: W and X are what the class's slot weighed and cost before, Y and Z what it does then
-step_sum : (U ΣW T X S ΣX C W ΣW' ΣX' w Y Z : ℕ) → U + ΣW + T + X ≤ S + ΣX + C + W → ΣW' + W ≡ ΣW + Y → ΣX' + X ≡ ΣX + Z → C + Y ≤ T + w + Z → U + ΣW' ≤ (S + w) + ΣX'
-step_sum U ΣW T X S ΣX C W ΣW' ΣX' w Y Z a b c d = omega arith
+-- the ratio's step at the unit u: W and X are what the class's slot weighed and cost before, Y and Z what it does then
+step_sum : (u U ΣW T X S ΣX C W ΣW' ΣX' w Y Z : ℕ) → U + ΣW + T + u * X ≤ S + u * ΣX + C + W → ΣW' + W ≡ ΣW + Y → ΣX' + X ≡ ΣX + Z → C + Y ≤ T + w + u * Z → U + ΣW' ≤ (S + w) + u * ΣX'
+step_sum u U ΣW T X S ΣX C W ΣW' ΣX' w Y Z a b c d = omega (arith, ap (λ n. u * n) c)
 
 module _ (m : Meaning) (law : Lawful m) (qs : List Placed) (s : Ledger) (sound : Sound m qs s) (p : Piece) (admitted : Admitted m p) (t : Slot) (top used : ℕ) (ready : Ready m qs s p t top used) where
   is_class : (1 ≤ m.class p) × (m.class p ≤ 104)
@@ -126,14 +126,11 @@ module _ (m : Meaning) (law : Lawful m) (qs : List Placed) (s : Ledger) (sound :
         (λ d low high ne. ap (λ y. cond (stands y) y.weight 0) (slot_other x d low ne))
         ∙ ap (λ (y : Slot). sum_by (open_weight s) (upto 104) + cond (stands y) y.weight 0) (slot_same x)
 
-    costs_then : m.unit * sum_by (open_cost_in m (after_by m s p x top used)) (upto 104) + m.unit * open_cost_in m s (m.class p) ≡ m.unit * sum_by (open_cost_in m s) (upto 104) + m.unit * cond (stands x) (m.cost (m.class p)) 0
+    costs_then : sum_by (open_cost_in m (after_by m s p x top used)) (upto 104) + open_cost_in m s (m.class p) ≡ sum_by (open_cost_in m s) (upto 104) + cond (stands x) (m.cost (m.class p)) 0
     costs_then =
-        sym (mul-add m.unit _ _)
-        ∙ ap (λ n. m.unit * n)
-        (sum_change (open_cost_in m s) (open_cost_in m (after_by m s p x top used)) 104 (m.class p) is_class.0 is_class.1
+        sum_change (open_cost_in m s) (open_cost_in m (after_by m s p x top used)) 104 (m.class p) is_class.0 is_class.1
         (λ d low high ne. ap (λ y. cond (stands y) (m.cost d) 0) (slot_other x d low ne))
-        ∙ ap (λ (y : Slot). sum_by (open_cost_in m s) (upto 104) + cond (stands y) (m.cost (m.class p)) 0) (slot_same x))
-        ∙ mul-add m.unit _ _
+        ∙ ap (λ (y : Slot). sum_by (open_cost_in m s) (upto 104) + cond (stands y) (m.cost (m.class p)) 0) (slot_same x)
 
     -- what is left to show of x
     sound_then : (stands x ≡ true → Open m (push qs (placed_in m p t)) top (m.class p) x) → m.unit * m.cost (m.class p) + cond (stands x) x.weight 0 ≤ t.weight + m.weight p + m.unit * cond (stands x) (m.cost (m.class p)) 0 → Sound m (push qs (placed_in m p t)) (after_by m s p x top used)
@@ -152,7 +149,7 @@ module _ (m : Meaning) (law : Lawful m) (qs : List Placed) (s : Ledger) (sound :
                 (open-then (subst (λ y. stands y ≡ true) (ap (open_in (after_by m s p x top used)) e ∙ slot_same x) up)))
             | inr ne ↦ open_other x d low high ne up
           ];
-      ratio = step_sum (m.unit * used) (sum_by (open_weight s) (upto 104)) t.weight (m.unit * open_cost_in m s (m.class p)) s.weight (m.unit * sum_by (open_cost_in m s) (upto 104)) (m.unit * m.cost (m.class p)) (open_weight s (m.class p)) _ _ (m.weight p) _ _ ready.ratio weights_then costs_then heavy;
+      ratio = step_sum m.unit (m.unit * used) (sum_by (open_weight s) (upto 104)) t.weight (open_cost_in m s (m.class p)) s.weight (sum_by (open_cost_in m s) (upto 104)) (m.unit * m.cost (m.class p)) (open_weight s (m.class p)) _ _ (m.weight p) _ _ ready.ratio weights_then costs_then heavy;
     }
 
   taken_stands : stands (taken_by m p t) ≡ true
