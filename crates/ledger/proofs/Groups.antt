@@ -97,11 +97,11 @@ some_or_none : (n : ℕ) (qs : List Placed) → (0 < length (pieces_in n qs)) �
 some_or_none n [] = inr (All-nil (Elsewhere n))
 some_or_none n (r ∷ qs) =
     elim (cases_Bool (eqb r.container n)) [
-      | inl e ↦ inl (subst (λ l. 0 < length l) (sym (pieces_cons_same n r qs (eqb-true r.container n e))) (omega arith))
+      | inl e ↦ inl (rw (pieces_cons_same n r qs (eqb-true r.container n e)) (omega arith))
       | inr e ↦
           let i = eqb-false r.container n e in
           elim (some_or_none n qs) [
-            | inl s ↦ inl (subst (λ l. 0 < length l) (sym (pieces_cons_other n r qs i)) s)
+            | inl s ↦ inl (rw (pieces_cons_other n r qs i) s)
             | inr a ↦ inr (All-cons (Elsewhere n) r qs i a)
           ]
     ]
@@ -117,7 +117,7 @@ numbers_push_found (r ∷ qs) q h =
                 let i = eqb-true r.container q.container e in
                 ap (λ l. r.container ∷ but r.container l) (numbers_push_new qs q a)
                 ∙ ap (λ l. r.container ∷ l)
-                (subst (λ c. but c (numbers qs ++ (q.container ∷ [])) ≡ but c (numbers qs)) (sym i) (but_last_same q.container (numbers qs)))
+                (rw i (but_last_same q.container (numbers qs)))
             | inr e ↦
                 let none : pieces_in q.container (r ∷ qs) ≡ [] = pieces_none q.container (r ∷ qs) (All-cons (Elsewhere q.container) r qs (eqb-false r.container q.container e) a) in
                 absurd (omega (arith, ap length none))
@@ -126,7 +126,7 @@ numbers_push_found (r ∷ qs) q h =
 
 -- the groups, joined, are the pieces in some order
 pub regrouped : (top : ℕ) (qs : List Placed) → All (Numbered top) qs → IsPermutation (flat_map (λ n. pieces_in n qs) (upto top)) (pieces_of qs)
-regrouped top [] h = subst (λ l. IsPermutation l []) (sym (joined_none top)) (IsPermutation-refl [])
+regrouped top [] h = rw (joined_none top) (IsPermutation-refl [])
 regrouped top (q ∷ qs) h =
     let low = All-head (Numbered top) q qs h in
     IsPermutation-trans _ _ _

@@ -52,12 +52,12 @@ module _ (m : Meaning) (law : Lawful m) (qs : List Placed) (s : Ledger) (sound :
   pieces_then = pieces_push_same t.container qs (placed_in m p t) refl
 
   built_then : Built m (m.class p) (pieces_in t.container (push qs (placed_in m p t)))
-  built_then = subst (Built m (m.class p)) (sym pieces_then) (one_more ready.built admitted refl ready.not_full ready.fits)
+  built_then = rw pieces_then (one_more ready.built admitted refl ready.not_full ready.fits)
 
   tells_then : Tells m (pieces_in t.container (push qs (placed_in m p t))) (taken_by m p t)
   tells_then =
       let ps : List Piece = pieces_in t.container qs in
-      subst (λ l. Tells m l (taken_by m p t)) (sym pieces_then)
+      rw pieces_then
       (record {
         count = omega (arith, length_push ps p, ready.tells.count);
         level = omega (arith, sum_by_push m.load ps p, ready.tells.level);
@@ -76,7 +76,7 @@ module _ (m : Meaning) (law : Lawful m) (qs : List Placed) (s : Ledger) (sound :
   group_then n low high =
       elim (cases_eq n t.container) [
         | inl e ↦
-            subst (Group m (push qs (placed_in m p t))) (sym e)
+            rw e
             (let cost : m.cost (m.class p) ≡ m.cost (class_in t.container (push qs (placed_in m p t))) = ap m.cost (sym ready.ours_then) in
             record {
               some = some_then;
@@ -100,14 +100,14 @@ module _ (m : Meaning) (law : Lawful m) (qs : List Placed) (s : Ledger) (sound :
       let apart : t.container ≡ n → ⊥ = λ e. ne (sym o.ours ∙ ap (λ k. class_in k qs) (sym e) ∙ ready.ours (omega (arith, e, o.high))) in
       let ps : pieces_in n (push qs (placed_in m p t)) ≡ pieces_in n qs = pieces_push_other n qs (placed_in m p t) apart in
       let cs : class_in n (push qs (placed_in m p t)) ≡ class_in n qs = class_push_other n qs (placed_in m p t) apart in
-      subst (Open m (push qs (placed_in m p t)) top d) (sym same)
+      rw same
       (record {
         low = o.low;
         high = omega (arith, o.high, ready.grows);
         ours = cs ∙ o.ours;
-        built = subst (Built m d) (sym ps) o.built;
-        tells = subst (λ l. Tells m l (open_in s d)) (sym ps) o.tells;
-        not_full = subst (λ l. full_with m d l ≡ false) (sym ps) o.not_full;
+        built = rw ps o.built;
+        tells = rw ps o.tells;
+        not_full = rw ps o.not_full;
         standing = o.standing;
       })
 
@@ -143,8 +143,8 @@ module _ (m : Meaning) (law : Lawful m) (qs : List Placed) (s : Ledger) (sound :
       groups = group_then;
       opens = λ d low high up.
           elim (cases_eq d (m.class p)) [
-            | inl e ↦ subst (λ k. Open m (push qs (placed_in m p t)) top k (open_in (after_by m s p x top used) k)) (sym e)
-                (subst (Open m (push qs (placed_in m p t)) top (m.class p)) (sym (slot_same x))
+            | inl e ↦ rw e
+                (rw (slot_same x)
                 (open-then (subst (λ y. stands y ≡ true) (ap (open_in (after_by m s p x top used)) e ∙ slot_same x) up)))
             | inr ne ↦ open_other x d low high ne up
           ];
