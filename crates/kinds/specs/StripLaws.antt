@@ -1,6 +1,6 @@
 -- Strips are lawful. Assumes nothing.
 use Rattle.std.specs.Prelude.{◌≡◌, ℕ, ◌+◌, ◌-◌, ◌*◌, ◌^◌, ◌<◌, ◌≤◌, Bool, true, false, cond, not, ◌&&◌, ◌⊎◌, List, [], ◌∷◌, ◌++◌, length, Some, None, sum_by, ◌==◌, nat_le, refl, All}
-use Rattle.std.proofs.Common.{sym, ap, subst, ◌∙◌, inl, inr, mul-le-mul, mul-le-mul_left, mul-le-mul_right, arith, pow_mono, pow_pos}
+use Rattle.std.proofs.Common.{sym, ap, ◌∙◌, inl, inr, mul-le-mul, mul-le-mul_left, mul-le-mul_right, arith, pow_mono, pow_pos}
 use Rattle.std.proofs.lemmas.List.{nil_from_length}
 use Rattle.std.proofs.lemmas.List.Sums.{sum_by-cons, sum_by_push}
 use Rattle.std.proofs.lemmas.List.Elements.{All-nil, All-push, All-head, All-tail}
@@ -141,8 +141,8 @@ module _ (C : ℕ) (low : 1 ≤ C) (high : C ≤ 1000000) where
   costs : (c : ℕ) → ClassOf (strips C) c → (1 ≤ row_height c) × (C * row_height c ≤ 2 ^ 44)
   costs c k =
       elim (class_sides c k) [
-        | inl n ↦ subst (λ h. (1 ≤ h) × (C * h ≤ 2 ^ 44)) (sym (height_narrow c n)) (pow_range (c - 1) (omega (arith, in_narrow c n)))
-        | inr w ↦ subst (λ h. (1 ≤ h) × (C * h ≤ 2 ^ 44)) (sym (height_wide c w.0 w.1)) (pow_range (c - 14) (omega (arith, k.1)))
+        | inl n ↦ rw (height_narrow c n) (pow_range (c - 1) (omega (arith, in_narrow c n)))
+        | inr w ↦ rw (height_wide c w.0 w.1) (pow_range (c - 14) (omega (arith, k.1)))
       ]
 
   no_sides : (c : ℕ) → (ClassOf (strips C) c → ⊥) → (narrow c ≡ false) × (wide c ≡ false)
@@ -177,8 +177,8 @@ module _ (C : ℕ) (low : 1 ≤ C) (high : C ≤ 1000000) where
     no_class_tells_nothing = λ c h. let k = no_sides c h in (rw (k.0, k.1), rw k.0, λ n l. rw k.1, λ n l p. rw (k.0, k.1) (told_same (strip_refusal C p) false));
     first_zero_refused = λ p z a. omega (arith, (sized p a).wide_some);
     first_over_refused_as_zero = λ p o. ap (λ b. cond (not (p.finish == 0)) (Some Finish) (cond (not b) (Some First) (cond (not (between 1 4096 p.second)) (Some Second) None))) (above 1 C p.first (omega arith));
-    weight_range = λ p a. let z = sized p a in subst (λ n. (1 ≤ n) × (n ≤ 2 ^ 44)) (sym (weight_is p a)) (omega (arith, mul-le-mul z.wide_some z.high_some, mul-le-mul z.wide_most z.high_most, mul-le-mul_right 4096 high));
-    load_range = λ p a. let z = sized p a in subst (λ n. (1 ≤ n) × (n ≤ 1000000)) (sym (load_is p a)) (omega (arith, z.wide_some, z.wide_most));
+    weight_range = λ p a. let z = sized p a in rw (weight_is p a) (omega (arith, mul-le-mul z.wide_some z.high_some, mul-le-mul z.wide_most z.high_most, mul-le-mul_right 4096 high));
+    load_range = λ p a. let z = sized p a in rw (load_is p a) (omega (arith, z.wide_some, z.wide_most));
     unit_some = low;
     cost_range = costs;
     ceiling_range = omega arith;

@@ -123,7 +123,7 @@ module _ {C k L u p K : ℕ} (known : Measures C k L u p) (room : k ≤ K) (few 
       ]
 
   at_cost : (c W : ℕ) → ClassOf B c → u * C * K ≤ W → u * C * K * B.cost c ≤ W
-  at_cost c W h l = subst (λ n. u * C * K * n ≤ W) (sym (cost_one known c h)) (omega (arith, l))
+  at_cost c W h l = rw (cost_one known c h) (omega (arith, l))
 
   full : (c : ℕ) (ps : List Piece) → Built T c ps → full_with T c ps ≡ true → u * C * K * B.cost c ≤ weights T ps
   full c ps b f =

@@ -171,11 +171,9 @@ new_sound m = record {
 
 put_sound : (m : Meaning) → Lawful m → (h : List Call) (s : Ledger) → Sound m (placed h) s → (p : Piece) (a : Result Placing PutRefusal) → Answered m s p a → Sound m (placed (h ++ (a_put p a ∷ []))) (ledger_by m s p a)
 put_sound m law h s sound p a (inl x) =
-    rw x.1
-    (rw (placed_same h (a_put p (Err x.0)) refl) sound)
+    rw x.1 (rw (placed_same h (a_put p (Err x.0)) refl) sound)
 put_sound m law h s sound p a (inr x) =
-    rw x.1
-    (rw (placed_then h (a_put p (Ok (placing m s p)))) (accepted_sound m law (placed h) s sound p x.0))
+    rw x.1 (rw (placed_then h (a_put p (Ok (placing m s p)))) (accepted_sound m law (placed h) s sound p x.0))
 
 pub ran_sound : (m : Meaning) → Lawful m → {h : List Call} {s : Ledger} → Ran m h s → Sound m (placed h) s
 ran_sound m law made = new_sound m
