@@ -1,5 +1,5 @@
 -- Halves are lawful. Assumes nothing.
-use Rattle.std.specs.Prelude.{◌≡◌, ℕ, ◌+◌, ◌*◌, ◌<◌, ◌≤◌, true, false, cond, ◌&&◌, leb, List, [], ◌∷◌, length, Some, None, sum_by, ◌==◌, nat_eq, nat_le, refl, All}
+use Rattle.std.specs.Prelude.{◌≡◌, ℕ, ◌+◌, ◌*◌, ◌<◌, ◌≤◌, true, false, cond, ◌&&◌, leb, List, [], ◌∷◌, length, Some, None, sum_by, ◌==◌, nat_eq, nat_le, refl, All, Bool}
 use Rattle.std.proofs.Common.{sym, ap, ◌∙◌, inr, arith}
 use Rattle.std.proofs.lemmas.List.Elements.{All-nil, All-push, All-head, All-tail, All-weaker}
 use Rattle.std.proofs.lemmas.List.Sums.{sum_by-cons, sum_by_push}
@@ -57,8 +57,12 @@ held {c} (one_more {ps = ps} {p = p} b a k n f) =
       one = λ h. (and_parts (c == 1) (sized p) fit.0).0;
     }
 
+cost_most : (b : Bool) → cond b 1 0 ≤ 1
+cost_most true = omega arith
+cost_most false = omega arith
+
 heavy : (c : ℕ) (ps : List Piece) → 1 ≤ level halves ps → 1 * cond (c == 1) 1 0 ≤ weights halves ps
-heavy c ps l = grind (arith, nat_tests)
+heavy c ps l = omega (arith, cost_most (c == 1), l)
 
 unfit : (c : ℕ) (ps : List Piece) (p : Piece) → Admitted halves p → halves.class p ≡ c → fits_after halves c ps p ≡ false → 1 ≤ level halves ps
 unfit c ps p a k f =

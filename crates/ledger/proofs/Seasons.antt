@@ -1,5 +1,5 @@
 -- Every season over a lawful kind keeps its promise. Assumes nothing.
-use Rattle.std.proofs.Common.{◌≡◌, ℕ, suc, ◌+◌, ◌-◌, ◌*◌, ◌<◌, ◌≤◌, Bool, true, false, cond, ◌&&◌, ◌||◌, eqb, ltb, leb, ◌⊎◌, List, [], ◌∷◌, ◌++◌, Some, None, Ok, Err, sum_by, Option, Result, sym, refl, ap, ◌∙◌, subst, inl, inr, mul-le-mul_left, add-one, arith, flat_map, All, IsPermutation}
+use Rattle.std.proofs.Common.{◌≡◌, ℕ, suc, ◌+◌, ◌-◌, ◌*◌, ◌<◌, ◌≤◌, Bool, true, false, cond, ◌&&◌, ◌||◌, eqb, ltb, leb, ◌⊎◌, List, [], ◌∷◌, ◌++◌, Some, None, Ok, Err, sum_by, Option, Result, sym, refl, ap, ◌∙◌, subst, inl, inr, mul-le-mul_left, mul-add, add-one, arith, flat_map, All, IsPermutation}
 use Rattle.std.proofs.lemmas.List.{get_or-replicate, length_push}
 use Rattle.std.proofs.lemmas.List.Elements.{All-nil, All-head, All-tail, All-weaker, All-map}
 use Rattle.std.proofs.lemmas.List.Folds.{fold-map, flat_map-map}
@@ -25,6 +25,15 @@ use Rattle.ledger.proofs.Sound.{open_weight, open_cost_in, Open, Group, Sound, p
 use Rattle.ledger.proofs.Step.{stepped}
 
 -- A container that takes a piece is ready for it
+
+fresh_sum : (U Uu C ΣW S ΣX X W : ℕ) → U ≡ Uu + C → Uu + ΣW ≤ S + ΣX → X ≤ W → U + ΣW + 0 + X ≤ S + ΣX + C + W
+fresh_sum U Uu C ΣW S ΣX X W e h l = omega arith
+
+going_sum : (U ΣW T S ΣX C : ℕ) → U + ΣW ≤ S + ΣX → U + ΣW + T + C ≤ S + ΣX + C + T
+going_sum U ΣW T S ΣX C h = omega arith
+
+last_sum : (U ΣW S ΣX F T : ℕ) → U + ΣW ≤ S + ΣX → S ≤ F → ΣX ≤ T → U ≤ F + T
+last_sum U ΣW S ΣX F T h k l = omega arith
 
 abbrev fresh : Ledger → Slot
 fresh s = record { container = s.opened + 1; count = 0; level = 0; weight = 0 }
@@ -53,7 +62,7 @@ module _ (m : Meaning) (law : Lawful m) (qs : List Placed) (s : Ledger) (sound :
         fits = let f = (and_parts (leb ((found m s p).level + m.load p) 1000000) (m.fits (m.class p) (found m s p).count (found m s p).level p) fit).1 in cc (o.tells.count, o.tells.level, f);
         standing = λ h. o.standing;
         sums = sum_same _ _ s.opened (λ k a b. ap m.cost (class_push_found k qs _ (sound.groups k a b).some)) ∙ sound.used;
-        ratio = rw up (omega (arith, sound.ratio));
+        ratio = rw up (going_sum _ _ (found m s p).weight _ _ (m.unit * m.cost (m.class p)) sound.ratio);
       }
 
   not_yet : All (Elsewhere (s.opened + 1)) qs
@@ -124,7 +133,7 @@ module _ (m : Meaning) (law : Lawful m) (qs : List Placed) (s : Ledger) (sound :
       | inr e ↦ e
     ];
     sums = used_then;
-    ratio = omega (arith, sound.ratio, heavy off);
+    ratio = fresh_sum _ (m.unit * s.used) _ _ _ _ _ _ (mul-add m.unit s.used (m.cost (m.class p))) sound.ratio (heavy off);
   }
 
   -- the rules' step, by whether the piece goes into what stands open, and whether it fills the container
@@ -226,7 +235,7 @@ module _ (m : Meaning) (law : Lawful m) (h : List Call) (s : Ledger) (sound : So
       (sum_le (open_cost_in m s) m.standing 104 open_standing)
 
   ratio : m.unit * s.used ≤ m.ceiling * floor_of m.ceiling s.weight + m.unit * standing_cost m
-  ratio = omega (arith, sound.ratio, floor_covers m.ceiling s.weight law.ceiling_range.0, mul-le-mul_left m.unit standing_all)
+  ratio = last_sum _ (sum_by (open_weight s) (upto 104)) _ _ _ _ sound.ratio (floor_covers m.ceiling s.weight law.ceiling_range.0) (mul-le-mul_left m.unit standing_all)
 
   owed : Season m h (report m s)
   owed = record {
