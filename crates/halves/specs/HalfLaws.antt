@@ -1,7 +1,6 @@
 -- Halves are lawful. Assumes nothing.
-use Rattle.std.specs.Prelude.{◌≡◌, ℕ, ◌+◌, ◌*◌, ◌^◌, ◌<◌, ◌≤◌, true, false, cond, ◌&&◌, leb, List, [], ◌∷◌, length, Some, None, sum_by, ◌==◌, nat_eq, nat_le, refl}
-use Rattle.std.proofs.Common.{sym, ap, subst, ◌∙◌, inr, arith}
-use Rattle.std.specs.List.{All}
+use Rattle.std.specs.Prelude.{◌≡◌, ℕ, ◌+◌, ◌*◌, ◌<◌, ◌≤◌, true, false, cond, ◌&&◌, leb, List, [], ◌∷◌, length, Some, None, sum_by, ◌==◌, nat_eq, nat_le, refl, All, Bool}
+use Rattle.std.proofs.Common.{sym, ap, ◌∙◌, inr, arith}
 use Rattle.std.proofs.lemmas.List.Elements.{All-nil, All-push, All-head, All-tail, All-weaker}
 use Rattle.std.proofs.lemmas.List.Sums.{sum_by-cons, sum_by_push}
 use Rattle.std.proofs.lemmas.Bool.{false_from_ne_true, cond-true, leb-true, leb-false, le-leb, eq-eqb, ne_eqb, and_parts, and_right, and_left}
@@ -58,8 +57,12 @@ held {c} (one_more {ps = ps} {p = p} b a k n f) =
       one = λ h. (and_parts (c == 1) (sized p) fit.0).0;
     }
 
+cost_most : (b : Bool) → cond b 1 0 ≤ 1
+cost_most true = omega arith
+cost_most false = omega arith
+
 heavy : (c : ℕ) (ps : List Piece) → 1 ≤ level halves ps → 1 * cond (c == 1) 1 0 ≤ weights halves ps
-heavy c ps l = grind (arith, nat_tests)
+heavy c ps l = omega (arith, cost_most (c == 1), l)
 
 unfit : (c : ℕ) (ps : List Piece) (p : Piece) → Admitted halves p → halves.class p ≡ c → fits_after halves c ps p ≡ false → 1 ≤ level halves ps
 unfit c ps p a k f =
@@ -77,8 +80,8 @@ halves_lawful = record {
   no_class_tells_nothing = λ c h. let e = no_one c h in (rw e, rw e, (λ n l. and_left _ _ e), λ n l p. and_left _ _ (and_left _ _ e));
   first_zero_refused = λ p z a. omega (arith, range p (is_sized p a));
   first_over_refused_as_zero = λ p h. ap (λ b. cond b None (Some First)) (above 1 2 p.first (omega arith));
-  weight_range = λ p a. subst (λ n. (1 ≤ n) × (n ≤ 2 ^ 44)) (sym (measure p (is_sized p a))) (omega (arith, range p (is_sized p a)));
-  load_range = λ p a. subst (λ n. (1 ≤ n) × (n ≤ 1000000)) (sym (measure p (is_sized p a))) (omega (arith, range p (is_sized p a)));
+  weight_range = λ p a. rw (measure p (is_sized p a)) (omega (arith, range p (is_sized p a)));
+  load_range = λ p a. rw (measure p (is_sized p a)) (omega (arith, range p (is_sized p a)));
   unit_some = omega arith;
   cost_range = λ c k. rw (class_one c k) (omega arith);
   ceiling_range = omega arith;

@@ -1,7 +1,6 @@
 -- Bars are lawful. Assumes nothing.
-use Rattle.std.proofs.Common.{◌≡◌, ℕ, ◌+◌, ◌*◌, ◌/◌, ◌%◌, ◌^◌, ◌<◌, ◌≤◌, min, Bool, true, false, cond, not, ◌&&◌, eqb, ltb, leb, List, [], ◌∷◌, ◌++◌, length, Some, None, sum_by, sym, refl, ap, ◌∙◌, subst, inl, inr, mul-le-mul_right, mul-le-mul, mul-le-mul_left, mul-pos, div-mul-le_self, arith, length-append}
+use Rattle.std.proofs.Common.{◌≡◌, ℕ, ◌+◌, ◌*◌, ◌/◌, ◌%◌, ◌^◌, ◌<◌, ◌≤◌, min, Bool, true, false, cond, not, ◌&&◌, eqb, ltb, leb, List, [], ◌∷◌, ◌++◌, length, Some, None, sum_by, sym, refl, ap, ◌∙◌, subst, inl, inr, mul-le-mul_right, mul-le-mul, mul-le-mul_left, mul-pos, div-mul-le_self, arith, length-append, All}
 use Rattle.std.proofs.Math.Nat.{le_of_mul-le-mul_left, lt-div-mul-add, mul-div_cancel', dvd-mul_right_of_dvd, dvd_of_mod-eq-zero}
-use Rattle.std.specs.List.{All}
 use Rattle.std.proofs.lemmas.Nat.{le-div}
 use Rattle.std.proofs.lemmas.List.Sums.{sum_by_push}
 use Rattle.std.proofs.lemmas.List.Elements.{All-nil, All-push, All-weaker}
@@ -108,7 +107,7 @@ module _ {C k L u p : ℕ} (known : Measures C k L u p) where
       let z = sized C q a in
       let c : ℕ = M.class q in
       let is : c ≡ min k (C / q.first) = told_yes _ _ _ a in
-      let l : Length C k q.first c = subst (Length C k q.first) (sym is) (length_class C k q.first (omega (arith, known.figs.many)) z.0 z.1) in
+      let l : Length C k q.first c = rw is (length_class C k q.first (omega (arith, known.figs.many)) z.0 z.1) in
       let weight_is : M.weight q ≡ cond (ltb c k) (u * C / c) (k * L * q.first) = told_yes _ _ _ a in
       record {
         first_some = z.0;
@@ -192,10 +191,10 @@ module _ {C k L u p : ℕ} (known : Measures C k L u p) where
 
   pub level_heavy : {c : ℕ} {ps : List Piece} → Built M c ps → c ≡ k → (q : Piece) → Admitted M q → M.class q ≡ c → C < level M ps + q.first → u * C ≤ weights M ps
   level_heavy {c} {ps} b i q a e o =
-      subst (λ n. u * C ≤ n) (sym ((holds b).by_lengths i)) (by_level k L u C (level M ps) q.first known.figs.lasts (subst (λ n. n * q.first ≤ C) (e ∙ i) (bar q a).goes_in) o)
+      rw ((holds b).by_lengths i) (by_level k L u C (level M ps) q.first known.figs.lasts (subst (λ n. n * q.first ≤ C) (e ∙ i) (bar q a).goes_in) o)
 
   at_cost : (c W : ℕ) → ClassOf M c → u * C ≤ W → u * C * M.cost c ≤ W
-  at_cost c W h l = subst (λ n. u * C * n ≤ W) (sym (cost_one c h)) (omega (arith, l))
+  at_cost c W h l = rw (cost_one c h) (omega (arith, l))
 
   full : (c : ℕ) (ps : List Piece) → Built M c ps → full_with M c ps ≡ true → u * C * M.cost c ≤ weights M ps
   full c ps b f =
@@ -230,7 +229,7 @@ module _ {C k L u p : ℕ} (known : Measures C k L u p) where
           | inl s ↦ s
           | inr z ↦ absurd (let e : M.weight q ≡ 0 = omega arith in omega (arith, y.share l, ap (λ n. M.class q * n) e, unit_some))
         ]
-        | inr l ↦ subst (λ n. 1 ≤ n) (sym (y.last (omega (arith, y.most)))) (mul-pos (mul-pos (omega (arith, known.figs.many)) known.figs.lcm_some) (bar q a).first_some)
+        | inr l ↦ rw (y.last (omega (arith, y.most))) (mul-pos (mul-pos (omega (arith, known.figs.many)) known.figs.lcm_some) (bar q a).first_some)
       ]
 
   pub weight_most : (q : Piece) → Admitted M q → M.weight q ≤ u * C
@@ -257,7 +256,7 @@ module _ {C k L u p : ℕ} (known : Measures C k L u p) where
     first_zero_refused = λ q z a. omega (arith, (bar q a).first_some);
     first_over_refused_as_zero = λ q o. ap (λ b. cond (not (eqb q.finish 0)) (Some Finish) (cond (not b) (Some First) (cond (not (eqb q.second 0)) (Some Second) None))) (above 1 C q.first (omega (arith, known.high)));
     weight_range = λ q a. (weight_some q a, omega (arith, weight_most q a, unit_most));
-    load_range = λ q a. subst (λ n. (1 ≤ n) × (n ≤ 1000000)) (sym (bar q a).load_is) ((bar q a).first_some, omega (arith, (bar q a).first_most, known.high));
+    load_range = λ q a. rw ((bar q a).load_is) ((bar q a).first_some, omega (arith, (bar q a).first_most, known.high));
     unit_some = unit_some;
     cost_range = λ c h. (omega (arith, cost_one c h), at_cost c (2 ^ 44) h (omega (arith, unit_most)));
     ceiling_range = (mul-pos (omega (arith, known.figs.all_three, lcm_below, known.figs.lcm_some)) known.low, omega (arith, mul-le-mul known.figs.factor_most known.high));

@@ -1,6 +1,5 @@
 -- The figures of each class number, 2 to 12, by computed tests. Assumes nothing.
-use Rattle.std.proofs.Common.{◌≡◌, ℕ, zero, suc, ◌+◌, ◌-◌, ◌*◌, ◌%◌, ◌<◌, ◌≤◌, min, Bool, true, not, ◌&&◌, ◌||◌, eqb, leb, get_or, refl, inl, inr, arith}
-use Rattle.std.specs.Bool.{Decides}
+use Rattle.std.proofs.Common.{◌≡◌, ℕ, zero, suc, ◌+◌, ◌-◌, ◌*◌, ◌%◌, ◌<◌, ◌≤◌, min, Bool, true, not, ◌&&◌, ◌||◌, eqb, leb, get_or, refl, inl, inr, arith, Decides}
 use Rattle.std.proofs.lemmas.Bool.Decides.{Decides-below_and}
 use Rattle.std.proofs.lemmas.Bool.{leb-true, eqb-true, eq-eqb, or_cases, or_left, or_right, not-true, both_ways, cases_lt}
 use Rattle.kinds.specs.Figures.{multiple, listed_multiples, unit_factor, ceiling_factor}

@@ -1,7 +1,6 @@
 -- The harmonic bound: what fits one capacity weighs at most the ceiling. Assumes nothing.
-use Rattle.std.proofs.Common.{◌≡◌, ℕ, ◌+◌, ◌-◌, ◌*◌, ◌<◌, ◌≤◌, min, ◌⊎◌, List, [], ◌∷◌, get_or, sum_by, sym, ap, subst, inl, inr, mul-le-mul_right, mul-le-mul_left, mul-pos, arith}
+use Rattle.std.proofs.Common.{◌≡◌, ℕ, ◌+◌, ◌-◌, ◌*◌, ◌<◌, ◌≤◌, min, ◌⊎◌, List, [], ◌∷◌, get_or, sum_by, ap, subst, inl, inr, mul-le-mul_right, mul-le-mul_left, mul-pos, arith, All}
 use Rattle.std.proofs.Math.Nat.{le_of_mul-le-mul_left}
-use Rattle.std.specs.List.{All}
 use Rattle.std.proofs.lemmas.List.Elements.{All-nil, All-cons, All-head, All-tail}
 use Rattle.std.proofs.lemmas.List.Sums.{sum_by-cons, get_or-le-sum_by}
 use Rattle.std.proofs.lemmas.Bool.{cases_lt, cases_eq}
@@ -51,7 +50,7 @@ module _ {X : Type 0} (j w a : X → ℕ) (C k L u : ℕ) where
         | inl b ↦ below_slope m (j x) (w x) u C (a x) h.some (p b) (h.share b) (omega (arith, h.long b))
         | inr b ↦
             let e : j x ≡ k = omega (arith, h.most) in
-            subst (λ n. m * n ≤ u * (m + 1) * a x) (sym (h.last e)) (last_slope m k L u (a x) l lasts)
+            rw (h.last e) (last_slope m k L u (a x) l lasts)
       ]
 
   slope : u + L ≡ k * L → (m : ℕ) → m < k → (xs : List X) → All Harmonic xs → All (Past m) xs → m * sum_by w xs ≤ u * (m + 1) * sum_by a xs
@@ -113,7 +112,7 @@ module _ {X : Type 0} (j w a : X → ℕ) (C k L u : ℕ) where
                   let long : C < (t + 1) * a y = subst (λ n. C < (n + 1) * a y) e (q.holds.long (omega arith)) in
                   let share : t * w y ≡ u * C = subst (λ n. n * w y ≡ u * C) e (q.holds.share (omega arith)) in
                   let less : t * (t + 1) * sum_by a q.others < C = left_over t (a y) (sum_by a q.others) C s long (subst (λ n. t * n ≤ C) (q.sums a) l) in
-                  subst (λ n. 42 * n ≤ M * C) (sym (q.sums w))
+                  rw (q.sums w)
                   (with_one t N M u C (w y) (sum_by w q.others) s share (rest q.others q.all (short_past (t * (t + 1)) q.others q.all less) (omega arith)) fall)
               | inr n ↦ with_none t m M u C (sum_by w xs) (sum_by a xs) s o (slope lasts m b xs h (next_past t m xs c p n)) l test
             ]

@@ -1,31 +1,27 @@
 -- The rank of a height: the least power of two that is at least as much. Assumes nothing.
-use Rattle.std.specs.Prelude.{◌≡◌, ℕ, zero, suc, ◌+◌, ◌-◌, ◌*◌, ◌^◌, ◌≤◌, nat_le, refl}
+use Rattle.std.specs.Prelude.{◌≡◌, ℕ, zero, suc, ◌+◌, ◌-◌, ◌*◌, ◌^◌, ◌≤◌, refl}
 use Rattle.std.proofs.Common.{ap, inl, inr, arith, pow_mono}
 use Rattle.std.proofs.Math.Nat.{pow-succ'}
 use Rattle.std.specs.Int.Count.{count_leading_zeros}
 use Rattle.std.proofs.lemmas.Nat.{leading_length}
-use Rattle.std.proofs.lemmas.Bool.{cases_Bool, cases_lt, leb-true, leb-false}
+use Rattle.std.proofs.lemmas.Bool.{cases_lt}
+use Rattle.std.proofs.lemmas.Bool.Decides.{nat_tests}
 use Rattle.kinds.specs.Strips.{rank_from, rank}
 
 from_most : (n g b : ℕ) → rank_from n g b ≤ g + n
 from_most zero g b = omega arith
-from_most (suc n) g b = elim (cases_Bool (nat_le b (2 ^ g))) [ inl e ↦ rw e (omega arith) | inr e ↦ rw e (omega (arith, from_most n (g + 1) b)) ]
+from_most (suc n) g b = grind (arith, nat_tests, from_most n (g + 1) b)
 
 from_enough : (n g b : ℕ) → b ≤ 2 ^ (g + n) → b ≤ 2 ^ rank_from n g b
 from_enough zero g b h = omega (arith, ap (λ k. 2 ^ k) (let e : g + 0 ≡ g = omega arith in e))
 from_enough (suc n) g b h =
-    elim (cases_Bool (nat_le b (2 ^ g))) [
-      | inl e ↦ rw e (leb-true b (2 ^ g) e)
-      | inr e ↦ rw e (from_enough n (g + 1) b (omega (arith, ap (λ k. 2 ^ k) (let i : g + suc n ≡ g + 1 + n = omega arith in i))))
-    ]
+    let i : g + suc n ≡ g + 1 + n = omega arith in
+    let rest : b ≤ 2 ^ rank_from n (g + 1) b = from_enough n (g + 1) b (omega (arith, ap (λ k. 2 ^ k) i)) in
+    grind (arith, nat_tests)
 
 from_least : (n g b k : ℕ) → g ≤ k → b ≤ 2 ^ k → rank_from n g b ≤ k
 from_least zero g b k l h = l
-from_least (suc n) g b k l h =
-    elim (cases_Bool (nat_le b (2 ^ g))) [
-      | inl e ↦ rw e l
-      | inr e ↦ rw e (from_least n (g + 1) b k (elim (cases_lt g k) [ inl s ↦ omega arith | inr s ↦ absurd (omega (arith, leb-false b (2 ^ g) e, pow_mono {i = k} {j = g} s)) ]) h)
-    ]
+from_least (suc n) g b k l h = grind (arith, nat_tests, from_least n (g + 1) b k, pow_mono {i = k} {j = g})
 
 pub rank_most : (b : ℕ) → rank b ≤ 12
 unfolding rank

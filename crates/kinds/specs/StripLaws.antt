@@ -1,7 +1,6 @@
 -- Strips are lawful. Assumes nothing.
-use Rattle.std.specs.Prelude.{◌≡◌, ℕ, ◌+◌, ◌-◌, ◌*◌, ◌^◌, ◌<◌, ◌≤◌, Bool, true, false, cond, not, ◌&&◌, ◌⊎◌, List, [], ◌∷◌, ◌++◌, length, Some, None, sum_by, ◌==◌, nat_le, refl}
-use Rattle.std.proofs.Common.{sym, ap, subst, ◌∙◌, inl, inr, mul_comm, mul_assoc, mul-le-mul, mul-le-mul_left, mul-le-mul_right, add-mul, arith, pow_mono, pow_pos}
-use Rattle.std.specs.List.{All}
+use Rattle.std.specs.Prelude.{◌≡◌, ℕ, ◌+◌, ◌-◌, ◌*◌, ◌^◌, ◌<◌, ◌≤◌, Bool, true, false, cond, not, ◌&&◌, ◌⊎◌, List, [], ◌∷◌, ◌++◌, length, Some, None, sum_by, ◌==◌, nat_le, refl, All}
+use Rattle.std.proofs.Common.{sym, ap, ◌∙◌, inl, inr, mul-le-mul, mul-le-mul_left, mul-le-mul_right, arith, pow_mono, pow_pos}
 use Rattle.std.proofs.lemmas.List.{nil_from_length}
 use Rattle.std.proofs.lemmas.List.Sums.{sum_by-cons, sum_by_push}
 use Rattle.std.proofs.lemmas.List.Elements.{All-nil, All-push, All-head, All-tail}
@@ -16,7 +15,7 @@ use Rattle.kinds.specs.Ranks.{rank_most, rank_enough, rank_half}
 
 -- a width and a height against a row of twice the one and half the other
 quarter : (a b c h : ℕ) → c ≤ 2 * a → h ≤ 2 * b → c * h ≤ 4 * (a * b)
-quarter a b c h l k = omega (arith, mul-le-mul l k, mul_assoc 2 a (2 * b), mul_assoc a 2 b, mul_comm a 2, mul_assoc 2 a b)
+quarter a b c h l k = omega (arith, mul-le-mul l k)
 
 module _ (C : ℕ) (low : 1 ≤ C) (high : C ≤ 1000000) where
   pub record Sized (p : Piece) : Type 0 where
@@ -107,12 +106,12 @@ module _ (C : ℕ) (low : 1 ≤ C) (high : C ≤ 1000000) where
   area_ok : {c : ℕ} {ps : List Piece} → Built (strips C) c ps → sum_by area ps ≤ level (strips C) ps * row_height c
   area_ok none_yet = omega arith
   area_ok {c} (one_more {ps = ps} {p = p} b a e nf ft) =
-      omega (arith, area_ok b, sum_by_push area ps p, ap (λ n. n * row_height c) (level_push ps p a), add-mul (level (strips C) ps) p.first (row_height c), mul-le-mul_left p.first (row c p a e).tall)
+      omega (arith, area_ok b, sum_by_push area ps p, ap (λ n. n * row_height c) (level_push ps p a), mul-le-mul_left p.first (row c p a e).tall)
 
   heavy_ok : {c : ℕ} {ps : List Piece} → Built (strips C) c ps → 2 * (level (strips C) ps * row_height c) ≤ weights (strips C) ps
   heavy_ok none_yet = omega arith
   heavy_ok {c} (one_more {ps = ps} {p = p} b a e nf ft) =
-      omega (arith, heavy_ok b, weights_push ps p a, ap (λ n. n * row_height c) (level_push ps p a), add-mul (level (strips C) ps) p.first (row_height c), mul-le-mul_left p.first (row c p a e).flat, mul_assoc p.first 2 p.second, mul_comm p.first 2, mul_assoc 2 p.first p.second)
+      omega (arith, heavy_ok b, weights_push ps p a, ap (λ n. n * row_height c) (level_push ps p a), mul-le-mul_left p.first (row c p a e).flat)
 
   wide_heavy : {c : ℕ} {ps : List Piece} → Built (strips C) c ps → narrow c ≡ false → 0 < length ps → C * row_height c ≤ weights (strips C) ps
   wide_heavy none_yet w h = absurd (omega arith)
@@ -142,8 +141,8 @@ module _ (C : ℕ) (low : 1 ≤ C) (high : C ≤ 1000000) where
   costs : (c : ℕ) → ClassOf (strips C) c → (1 ≤ row_height c) × (C * row_height c ≤ 2 ^ 44)
   costs c k =
       elim (class_sides c k) [
-        | inl n ↦ subst (λ h. (1 ≤ h) × (C * h ≤ 2 ^ 44)) (sym (height_narrow c n)) (pow_range (c - 1) (omega (arith, in_narrow c n)))
-        | inr w ↦ subst (λ h. (1 ≤ h) × (C * h ≤ 2 ^ 44)) (sym (height_wide c w.0 w.1)) (pow_range (c - 14) (omega (arith, k.1)))
+        | inl n ↦ rw (height_narrow c n) (pow_range (c - 1) (omega (arith, in_narrow c n)))
+        | inr w ↦ rw (height_wide c w.0 w.1) (pow_range (c - 14) (omega (arith, k.1)))
       ]
 
   no_sides : (c : ℕ) → (ClassOf (strips C) c → ⊥) → (narrow c ≡ false) × (wide c ≡ false)
@@ -163,7 +162,7 @@ module _ (C : ℕ) (low : 1 ≤ C) (high : C ≤ 1000000) where
         | inl n ↦
             let over : C < level (strips C) ps + p.first = leb-false (level (strips C) ps + p.first) C (sym (narrow_fit c _ _ n.0) ∙ un) in
             let half : C ≤ 2 * level (strips C) ps = omega (arith, n.1) in
-            omega (arith, heavy_ok b, mul-le-mul_right (row_height c) half, mul_assoc 2 (level (strips C) ps) (row_height c))
+            omega (arith, heavy_ok b, mul-le-mul_right (row_height c) half)
         | inr w ↦
             let ne : length ps ≡ 0 → ⊥ = eqb-false (length ps) 0 (sym (wide_fit c _ _ w.0 w.1) ∙ un) in
             wide_heavy b w.0 (omega arith)
@@ -178,8 +177,8 @@ module _ (C : ℕ) (low : 1 ≤ C) (high : C ≤ 1000000) where
     no_class_tells_nothing = λ c h. let k = no_sides c h in (rw (k.0, k.1), rw k.0, λ n l. rw k.1, λ n l p. rw (k.0, k.1) (told_same (strip_refusal C p) false));
     first_zero_refused = λ p z a. omega (arith, (sized p a).wide_some);
     first_over_refused_as_zero = λ p o. ap (λ b. cond (not (p.finish == 0)) (Some Finish) (cond (not b) (Some First) (cond (not (between 1 4096 p.second)) (Some Second) None))) (above 1 C p.first (omega arith));
-    weight_range = λ p a. let z = sized p a in subst (λ n. (1 ≤ n) × (n ≤ 2 ^ 44)) (sym (weight_is p a)) (omega (arith, mul-le-mul z.wide_some z.high_some, mul-le-mul z.wide_most z.high_most, mul-le-mul_right 4096 high));
-    load_range = λ p a. let z = sized p a in subst (λ n. (1 ≤ n) × (n ≤ 1000000)) (sym (load_is p a)) (omega (arith, z.wide_some, z.wide_most));
+    weight_range = λ p a. let z = sized p a in rw (weight_is p a) (omega (arith, mul-le-mul z.wide_some z.high_some, mul-le-mul z.wide_most z.high_most, mul-le-mul_right 4096 high));
+    load_range = λ p a. let z = sized p a in rw (load_is p a) (omega (arith, z.wide_some, z.wide_most));
     unit_some = low;
     cost_range = costs;
     ceiling_range = omega arith;
@@ -197,7 +196,7 @@ module _ (C : ℕ) (low : 1 ≤ C) (high : C ≤ 1000000) where
         wide_heavy b (above 1 13 c (in_between 14 26 c k.0).0) (leb-true 1 (length ps) k.1);
     unfit_weighs_enough = unfit;
     allowed_admitted = λ ps h l a. all_admitted h ps a.0;
-    allowed_weighs_at_most = λ ps h l a. omega (arith, weights_area ps (all_admitted h ps a.0), a.1, mul_assoc 4 C h);
+    allowed_weighs_at_most = λ ps h l a. omega (arith, weights_area ps (all_admitted h ps a.0), a.1);
     full_after_first = λ p a z.
         let c : ℕ = (strips C).class p in
         elim (row c p a refl).sides [

@@ -1,7 +1,6 @@
 -- Totes are lawful: bars with a piece limit. Assumes nothing.
-use Rattle.std.proofs.Common.{◌≡◌, ℕ, ◌+◌, ◌*◌, ◌/◌, ◌^◌, ◌<◌, ◌≤◌, Bool, true, false, cond, ◌&&◌, ltb, leb, List, [], ◌∷◌, length, sym, ap, ◌∙◌, subst, inl, inr, mul-le-mul_right, mul-le-mul, mul-le-mul_left, mul-pos, arith, length-append}
+use Rattle.std.proofs.Common.{◌≡◌, ℕ, ◌+◌, ◌*◌, ◌/◌, ◌^◌, ◌<◌, ◌≤◌, Bool, true, false, cond, ◌&&◌, ltb, leb, List, [], ◌∷◌, length, sym, ap, ◌∙◌, subst, inl, inr, mul-le-mul_right, mul-le-mul, mul-le-mul_left, mul-pos, arith, length-append, All}
 use Rattle.std.proofs.Math.Nat.{mul-div_cancel_left}
-use Rattle.std.specs.List.{All}
 use Rattle.std.proofs.lemmas.List.Elements.{All-head, All-tail}
 use Rattle.std.proofs.lemmas.List.Sums.{sum_by-cons}
 use Rattle.std.proofs.lemmas.Bool.{cases_lt, lt-ltb, le-ltb, cond-true, cond-false}
@@ -124,7 +123,7 @@ module _ {C k L u p K : ℕ} (known : Measures C k L u p) (room : k ≤ K) (few 
       ]
 
   at_cost : (c W : ℕ) → ClassOf B c → u * C * K ≤ W → u * C * K * B.cost c ≤ W
-  at_cost c W h l = subst (λ n. u * C * K * n ≤ W) (sym (cost_one known c h)) (omega (arith, l))
+  at_cost c W h l = rw (cost_one known c h) (omega (arith, l))
 
   full : (c : ℕ) (ps : List Piece) → Built T c ps → full_with T c ps ≡ true → u * C * K * B.cost c ≤ weights T ps
   full c ps b f =

@@ -1,6 +1,6 @@
 -- An allowance over a lawful kind is lawful. Assumes nothing.
 use Rattle.std.specs.Prelude.{◌≡◌, ℕ, false, List, map}
-use Rattle.std.proofs.Common.{sym, ap, subst, ◌∙◌, arith}
+use Rattle.std.proofs.Common.{sym, ap, ◌∙◌, arith}
 use Rattle.std.proofs.lemmas.List.{map_push, length-map}
 use Rattle.kinds.specs.declared.piece.Piece.{Piece}
 use Rattle.kinds.specs.Kind.{Meaning, Lawful, Admitted, Built, one_more, none_yet, full_with, fits_after, at_first, between}
@@ -18,7 +18,7 @@ module _ (t : ℕ) (m : Meaning) where
   built_down : {c : ℕ} {ps : List Piece} → Built (allowance t m) c ps → Built m c (map (widened t) ps)
   built_down none_yet = none_yet
   built_down {c} (one_more {ps = ps} {p = p} b a e nf ft) =
-      subst (Built m c) (sym (map_push (widened t) ps p))
+      rw (map_push (widened t) ps p)
       (one_more (built_down b) a e (sym (full_down c ps) ∙ nf) (sym (fits_down c ps p) ∙ ft))
 
   out : (p : Piece) → between 1 1000000 p.first ≡ false → widened t p ≡ at_first p 0

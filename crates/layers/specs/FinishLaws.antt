@@ -1,7 +1,6 @@
 -- Finishes over a lawful kind are lawful. Assumes nothing.
-use Rattle.std.specs.Prelude.{◌≡◌, ℕ, ◌+◌, ◌-◌, ◌*◌, ◌/◌, ◌%◌, ◌<◌, ◌≤◌, Bool, true, false, cond, ◌&&◌, ltb, List, [], ◌∷◌, map, length, get_or, Some, None, sum_by, ◌≢◌, nat_lt, refl}
-use Rattle.std.proofs.Common.{sym, ap, subst, ◌∙◌, inl, inr, div-lt_iff_lt-mul, mod-lt, mul-le-mul_right, one-mul, div-mul-le_self, arith}
-use Rattle.std.specs.List.{All}
+use Rattle.std.specs.Prelude.{◌≡◌, ℕ, ◌+◌, ◌-◌, ◌*◌, ◌/◌, ◌%◌, ◌<◌, ◌≤◌, Bool, true, false, cond, ◌&&◌, ltb, List, [], ◌∷◌, map, length, get_or, Some, None, sum_by, ◌≢◌, nat_lt, refl, All}
+use Rattle.std.proofs.Common.{sym, ap, subst, ◌∙◌, inl, inr, div-lt_iff_lt-mul, mod-lt, mul-le-mul_right, div-mul-le_self, arith}
 use Rattle.std.proofs.lemmas.Nat.{le-div, div-mul-add, mod-mul-add, row_fits}
 use Rattle.std.proofs.lemmas.List.{map_push, length-map}
 use Rattle.std.proofs.lemmas.List.Sums.{sum_by-cons}
@@ -68,7 +67,7 @@ module _ (F : ℕ) (m : Meaning) (law : Lawful m) where
   in_class p a =
       let k = law.admitted_has_class (plain p) (below_admitted p a) in
       let w = row_within m.classes F p.finish (m.class (plain p)) (ltb-true p.finish F (low_finish p a)) k.1 in
-      subst (ClassOf (finishes_by F m)) (sym (class_is p a)) (omega (arith, k.0), w)
+      rw (class_is p a) (omega (arith, k.0), w)
 
   has_from : (c : ℕ) → ClassOf (finishes_by F m) c → has_class F m c ≡ true
   has_from c k = is_between 1 (F * m.classes) c k.0 k.1
@@ -123,7 +122,7 @@ module _ (F : ℕ) (m : Meaning) (law : Lawful m) where
       let r : Passed c ps = built_down b in
       let d : Down c p = down c p a e in
       record {
-        built = subst (Built m (below F m c)) (sym (map_push plain ps p)) (one_more r.built d.admitted d.class (sym (full_down c ps d.has r.low) ∙ nf) (sym (fits_down c ps p d.has d.low r.low) ∙ ft));
+        built = rw (map_push plain ps p) (one_more r.built d.admitted d.class (sym (full_down c ps d.has r.low) ∙ nf) (sym (fits_down c ps p d.has d.low r.low) ∙ ft));
         low = All-push (λ p. p.finish < F) ps p r.low d.low;
         same = All-push (λ p. p.finish ≡ (c - 1) / m.classes) ps p r.same d.finish;
       }
@@ -155,7 +154,7 @@ module _ (F : ℕ) (m : Meaning) (law : Lawful m) where
 
   pub finishes_by_lawful : 1 ≤ F → F * m.classes ≤ 104 → Lawful (finishes_by F m)
   finishes_by_lawful some few = record {
-    some_class = omega (arith, mul-le-mul_right {m = 1} {n = F} m.classes some, one-mul m.classes, law.some_class);
+    some_class = omega (arith, mul-le-mul_right m.classes some, law.some_class);
     few_classes = few;
     admitted_has_class = in_class;
     refused_tells_nothing = not_admitted_down;
@@ -177,7 +176,7 @@ module _ (F : ℕ) (m : Meaning) (law : Lawful m) where
         let r : Passed c ps = built_down b in
         let e : has_class F m c ≡ true = has_built b some in
         let k = law.built_allowed (below F m c) (map plain ps) (omega (arith, some, length-map ps plain)) r.built in
-        (((c - 1) / m.classes, row_low c e, r.same, subst (m.Allowed (map plain ps)) (sym (cost_down c e)) k.0), omega (arith, k.1, sum_down m.load ps r.low));
+        (((c - 1) / m.classes, row_low c e, r.same, rw (cost_down c e) k.0), omega (arith, k.1, sum_down m.load ps r.low));
     full_weighs_enough = λ c ps b f. elim (cases_Bool (has_class F m c)) [
       | inl e ↦
           let r : Passed c ps = built_down b in

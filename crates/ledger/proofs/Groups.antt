@@ -1,7 +1,5 @@
 -- One more placed piece, and the groups by container number. Assumes nothing.
-use Rattle.std.proofs.Common.{◌≡◌, ℕ, ◌<◌, ◌≤◌, Bool, not, eqb, ◌⊎◌, List, [], ◌∷◌, ◌++◌, length, filter, sym, refl, ap, ◌∙◌, subst, inl, inr, arith}
-use Rattle.std.specs.List.{flat_map, All}
-use Rattle.std.specs.List.Sorted.{IsPermutation}
+use Rattle.std.proofs.Common.{◌≡◌, ℕ, ◌<◌, ◌≤◌, Bool, not, eqb, ◌⊎◌, List, [], ◌∷◌, ◌++◌, length, filter, sym, refl, ap, ◌∙◌, subst, inl, inr, arith, flat_map, All, IsPermutation}
 use Rattle.std.proofs.lemmas.List.{flat_map_more, map-append, append-nil}
 use Rattle.std.proofs.lemmas.List.Elements.{filter-append, All-nil, All-cons, All-head, All-tail}
 use Rattle.std.proofs.lemmas.List.Recursion.{found_push_other}
@@ -99,11 +97,11 @@ some_or_none : (n : ℕ) (qs : List Placed) → (0 < length (pieces_in n qs)) �
 some_or_none n [] = inr (All-nil (Elsewhere n))
 some_or_none n (r ∷ qs) =
     elim (cases_Bool (eqb r.container n)) [
-      | inl e ↦ inl (subst (λ l. 0 < length l) (sym (pieces_cons_same n r qs (eqb-true r.container n e))) (omega arith))
+      | inl e ↦ inl (rw (pieces_cons_same n r qs (eqb-true r.container n e)) (omega arith))
       | inr e ↦
           let i = eqb-false r.container n e in
           elim (some_or_none n qs) [
-            | inl s ↦ inl (subst (λ l. 0 < length l) (sym (pieces_cons_other n r qs i)) s)
+            | inl s ↦ inl (rw (pieces_cons_other n r qs i) s)
             | inr a ↦ inr (All-cons (Elsewhere n) r qs i a)
           ]
     ]
@@ -119,7 +117,7 @@ numbers_push_found (r ∷ qs) q h =
                 let i = eqb-true r.container q.container e in
                 ap (λ l. r.container ∷ but r.container l) (numbers_push_new qs q a)
                 ∙ ap (λ l. r.container ∷ l)
-                (subst (λ c. but c (numbers qs ++ (q.container ∷ [])) ≡ but c (numbers qs)) (sym i) (but_last_same q.container (numbers qs)))
+                (rw i (but_last_same q.container (numbers qs)))
             | inr e ↦
                 let none : pieces_in q.container (r ∷ qs) ≡ [] = pieces_none q.container (r ∷ qs) (All-cons (Elsewhere q.container) r qs (eqb-false r.container q.container e) a) in
                 absurd (omega (arith, ap length none))
@@ -128,7 +126,7 @@ numbers_push_found (r ∷ qs) q h =
 
 -- the groups, joined, are the pieces in some order
 pub regrouped : (top : ℕ) (qs : List Placed) → All (Numbered top) qs → IsPermutation (flat_map (λ n. pieces_in n qs) (upto top)) (pieces_of qs)
-regrouped top [] h = subst (λ l. IsPermutation l []) (sym (joined_none top)) (IsPermutation-refl [])
+regrouped top [] h = rw (joined_none top) (IsPermutation-refl [])
 regrouped top (q ∷ qs) h =
     let low = All-head (Numbered top) q qs h in
     IsPermutation-trans _ _ _

@@ -1,7 +1,5 @@
 -- Every season over a lawful kind keeps its promise. Assumes nothing.
-use Rattle.std.proofs.Common.{◌≡◌, ℕ, suc, ◌+◌, ◌-◌, ◌*◌, ◌<◌, ◌≤◌, Bool, true, false, cond, ◌&&◌, ◌||◌, eqb, ltb, leb, ◌⊎◌, List, [], ◌∷◌, ◌++◌, Some, None, Ok, Err, sum_by, Option, Result, sym, refl, ap, ◌∙◌, subst, inl, inr, mul-le-mul_left, mul-zero, mul-add, add-one, arith}
-use Rattle.std.specs.List.{flat_map, All}
-use Rattle.std.specs.List.Sorted.{IsPermutation}
+use Rattle.std.proofs.Common.{◌≡◌, ℕ, suc, ◌+◌, ◌-◌, ◌*◌, ◌<◌, ◌≤◌, Bool, true, false, cond, ◌&&◌, ◌||◌, eqb, ltb, leb, ◌⊎◌, List, [], ◌∷◌, ◌++◌, Some, None, Ok, Err, sum_by, Option, Result, sym, refl, ap, ◌∙◌, subst, inl, inr, mul-le-mul_left, mul-add, add-one, arith, flat_map, All, IsPermutation}
 use Rattle.std.proofs.lemmas.List.{get_or-replicate, length_push}
 use Rattle.std.proofs.lemmas.List.Elements.{All-nil, All-head, All-tail, All-weaker, All-map}
 use Rattle.std.proofs.lemmas.List.Folds.{fold-map, flat_map-map}
@@ -15,7 +13,7 @@ use Rattle.refusals.specs.declared.PutRefusal.TheVariants.{NoNumber, NotAdmitted
 use Rattle.ledger.specs.declared.Placing.{Placing}
 use Rattle.ledger.specs.declared.Slot.{Slot}
 use Rattle.ledger.specs.declared.Ledger.{Ledger}
-use Rattle.kinds.specs.Kind.{Meaning, Lawful, Admitted, Built, one_more, none_yet, weights, full_with, fits_after}
+use Rattle.kinds.specs.Kind.{Meaning, Lawful, Admitted, one_more, none_yet, weights}
 use Rattle.ledger.specs.Rules.{upto, floor_of, open_in, stands, nothing, new_ledger, found, fits_found, goes_on, taking, placing, closings, closes_after, kind_answer, put_answer, ledger_after, ledger_by, report, Call, a_put, a_report, Ran, made, then_put, then_report}
 use Rattle.ledger.specs.Season.{Container, AllowedContainer, AllowedPacking, cost_of, standing_cost, Placed, placed, pieces_of, pieces_in, class_in, numbers, container_in, grouped, Season}
 use Rattle.ledger.specs.Season.{CapIdle}
@@ -23,7 +21,7 @@ use Rattle.ledger.proofs.Floors.{floor_covers, floor_least}
 use Rattle.ledger.proofs.Bounds.{class_range}
 use Rattle.ledger.proofs.Uptos.{all_upto, sum_same, sum_le, sum_past}
 use Rattle.ledger.proofs.Groups.{push, Elsewhere, Numbered, placed_then, placed_same, class_push_found, class_push_new, pieces_none, numbers_push_new, numbers_push_found, regrouped}
-use Rattle.ledger.proofs.Sound.{open_weight, open_cost_in, Tells, Open, Group, Sound, placed_in, Ready}
+use Rattle.ledger.proofs.Sound.{open_weight, open_cost_in, Open, Group, Sound, placed_in, Ready}
 use Rattle.ledger.proofs.Step.{stepped}
 
 -- A container that takes a piece is ready for it
@@ -100,7 +98,7 @@ module _ (m : Meaning) (law : Lawful m) (qs : List Placed) (s : Ledger) (sound :
             let o : Open m qs s.opened (m.class p) (found m s p) = sound.opens (m.class p) is_class.0 is_class.1 up in
             let unfit : m.fits (m.class p) (found m s p).count (found m s p).level p ≡ false = sym (cap_idle up) ∙ subst (λ b. (b && fits_found m s p) ≡ false) up off in
             rw up (omega (arith, o.tells.weight, law.unfit_weighs_enough (m.class p) _ p o.built admitted refl (cc (o.tells.count, o.tells.level, unfit))))
-        | inr down ↦ rw down (omega (arith, mul-zero m.unit))
+        | inr down ↦ rw down (omega arith)
       ]
 
   in_turn_then : numbers (push qs (placed_in m p (fresh s))) ≡ upto (s.opened + 1)
@@ -126,10 +124,10 @@ module _ (m : Meaning) (law : Lawful m) (qs : List Placed) (s : Ledger) (sound :
     others = λ k h ne. omega arith;
     ours = λ h. absurd (omega arith);
     ours_then = class_then;
-    built = subst (Built m (m.class p)) (sym none_in) none_yet;
-    tells = subst (λ l. Tells m l (fresh s)) (sym none_in) (record { count = refl; level = refl; weight = refl });
-    not_full = subst (λ l. full_with m (m.class p) l ≡ false) (sym none_in) (law.empty_not_full (m.class p) (law.admitted_has_class p admitted));
-    fits = subst (λ l. fits_after m (m.class p) l p ≡ true) (sym none_in) (law.empty_takes p admitted);
+    built = rw none_in none_yet;
+    tells = rw none_in (record { count = refl; level = refl; weight = refl });
+    not_full = rw none_in (law.empty_not_full (m.class p) (law.admitted_has_class p admitted));
+    fits = rw none_in (law.empty_takes p admitted);
     standing = λ h. elim (law.standing_none_or_cost (m.class p) (law.admitted_has_class p admitted)) [
       | inl z ↦ absurd (true≢false (sym (one_full z) ∙ h))
       | inr e ↦ e
@@ -177,21 +175,19 @@ new_sound m = record {
   used = refl;
   groups = λ n a b. absurd (omega arith);
   opens = λ c a b up. absurd (true≢false (sym up ∙ ap stands (new_down c b)));
-  ratio = omega (arith, mul-zero m.unit);
+  ratio = omega arith;
 }
 
 put_sound : (m : Meaning) → Lawful m → (h : List Call) (s : Ledger) → Sound m (placed h) s → (p : Piece) (a : Result Placing PutRefusal) → Answered m s p a → Sound m (placed (h ++ (a_put p a ∷ []))) (ledger_by m s p a)
 put_sound m law h s sound p a (inl x) =
-    subst (λ y. Sound m (placed (h ++ (a_put p y ∷ []))) (ledger_by m s p y)) (sym x.1)
-    (subst (λ l. Sound m l s) (sym (placed_same h (a_put p (Err x.0)) refl)) sound)
+    rw x.1 (rw (placed_same h (a_put p (Err x.0)) refl) sound)
 put_sound m law h s sound p a (inr x) =
-    subst (λ y. Sound m (placed (h ++ (a_put p y ∷ []))) (ledger_by m s p y)) (sym x.1)
-    (subst (λ l. Sound m l (ledger_after m s p)) (sym (placed_then h (a_put p (Ok (placing m s p))))) (accepted_sound m law (placed h) s sound p x.0))
+    rw x.1 (rw (placed_then h (a_put p (Ok (placing m s p)))) (accepted_sound m law (placed h) s sound p x.0))
 
 pub ran_sound : (m : Meaning) → Lawful m → {h : List Call} {s : Ledger} → Ran m h s → Sound m (placed h) s
 ran_sound m law made = new_sound m
 ran_sound m law (then_put {h = h} {s = s} r p places closes) = put_sound m law h s (ran_sound m law r) p _ (answered m s p places closes)
-ran_sound m law (then_report {h = h} {s = s} r) = subst (λ l. Sound m l s) (sym (placed_same h (a_report (report m s)) refl)) (ran_sound m law r)
+ran_sound m law (then_report {h = h} {s = s} r) = rw (placed_same h (a_report (report m s)) refl) (ran_sound m law r)
 
 -- What a sound ledger owes
 
@@ -199,7 +195,7 @@ module _ (m : Meaning) (law : Lawful m) (h : List Call) (s : Ledger) (sound : So
   packed : AllowedPacking m (pieces_of (placed h)) (grouped m (placed h))
   packed = record {
     each_allowed = All-map (AllowedContainer m) (container_in m (placed h)) (numbers (placed h))
-        (subst (All (λ n. AllowedContainer m (container_in m (placed h) n))) (sym sound.in_turn)
+        (rw sound.in_turn
         (all_upto (λ n. AllowedContainer m (container_in m (placed h) n)) s.opened (λ n a b. let g : Group m (placed h) n = sound.groups n a b in (g.costs, g.allowed))));
     same_pieces = subst (λ l. IsPermutation l (pieces_of (placed h)))
         (sym (flat_map-map (λ k. k.pieces) (container_in m (placed h)) (numbers (placed h)) ∙ ap (flat_map (λ k. pieces_in k (placed h))) sound.in_turn))
@@ -218,7 +214,7 @@ packing_light m law (k ∷ ks) h =
     let first = All-head (AllowedContainer m) k ks h in
     let here : weights m k.pieces ≤ m.ceiling * k.cost = law.allowed_weighs_at_most k.pieces k.cost first.0 first.1 in
     let rest : weights m (flat_map (λ k. k.pieces) ks) ≤ m.ceiling * cost_of ks = packing_light m law ks (All-tail (AllowedContainer m) k ks h) in
-    omega (arith, sum_by-append m.weight k.pieces (flat_map (λ k. k.pieces) ks), ap (λ n. m.ceiling * n) (sum_by-cons (λ k. k.cost) k ks), mul-add m.ceiling k.cost (cost_of ks))
+    omega (arith, sum_by-append m.weight k.pieces (flat_map (λ k. k.pieces) ks), ap (λ n. m.ceiling * n) (sum_by-cons (λ k. k.cost) k ks))
 
 module _ (m : Meaning) (law : Lawful m) (h : List Call) (s : Ledger) (sound : Sound m (placed h) s) where
   no_cheaper : (ks : List Container) → AllowedPacking m (pieces_of (placed h)) ks → floor_of m.ceiling s.weight ≤ cost_of ks

@@ -1,6 +1,5 @@
 -- One accepted put keeps the ledger sound. Assumes nothing.
-use Rattle.std.proofs.Common.{◌≡◌, ℕ, ◌+◌, ◌-◌, ◌*◌, ◌<◌, ◌≤◌, Bool, true, false, cond, not, List, [], ◌∷◌, ◌++◌, length, set, sum_by, sym, refl, ap, ◌∙◌, subst, inl, inr, mul-add, arith}
-use Rattle.std.specs.List.{All}
+use Rattle.std.proofs.Common.{◌≡◌, ℕ, ◌+◌, ◌-◌, ◌*◌, ◌<◌, ◌≤◌, Bool, true, false, cond, not, List, [], ◌∷◌, ◌++◌, length, set, sum_by, sym, refl, ap, ◌∙◌, subst, inl, inr, arith, All}
 use Rattle.std.proofs.lemmas.List.{length-set, get_or-set_same, get_or-set_other, length_push, map_push}
 use Rattle.std.proofs.lemmas.List.Elements.{All-push, All-weaker}
 use Rattle.std.proofs.lemmas.List.Sums.{sum_by_push}
@@ -33,9 +32,9 @@ after_by m s p x top used = record {
   weight = s.weight + m.weight p;
 }
 
--- the ratio's step: W and X are what the class's slot weighed and cost before, Y and Z what it does then
-step_sum : (U ΣW T X S ΣX C W ΣW' ΣX' w Y Z : ℕ) → U + ΣW + T + X ≤ S + ΣX + C + W → ΣW' + W ≡ ΣW + Y → ΣX' + X ≡ ΣX + Z → C + Y ≤ T + w + Z → U + ΣW' ≤ (S + w) + ΣX'
-step_sum U ΣW T X S ΣX C W ΣW' ΣX' w Y Z a b c d = omega arith
+-- the ratio's step at the unit u: W and X are what the class's slot weighed and cost before, Y and Z what it does then
+step_sum : (u U ΣW T X S ΣX C W ΣW' ΣX' w Y Z : ℕ) → U + ΣW + T + u * X ≤ S + u * ΣX + C + W → ΣW' + W ≡ ΣW + Y → ΣX' + X ≡ ΣX + Z → C + Y ≤ T + w + u * Z → U + ΣW' ≤ (S + w) + u * ΣX'
+step_sum u U ΣW T X S ΣX C W ΣW' ΣX' w Y Z a b c d = omega (arith, ap (λ n. u * n) c)
 
 module _ (m : Meaning) (law : Lawful m) (qs : List Placed) (s : Ledger) (sound : Sound m qs s) (p : Piece) (admitted : Admitted m p) (t : Slot) (top used : ℕ) (ready : Ready m qs s p t top used) where
   is_class : (1 ≤ m.class p) × (m.class p ≤ 104)
@@ -53,12 +52,12 @@ module _ (m : Meaning) (law : Lawful m) (qs : List Placed) (s : Ledger) (sound :
   pieces_then = pieces_push_same t.container qs (placed_in m p t) refl
 
   built_then : Built m (m.class p) (pieces_in t.container (push qs (placed_in m p t)))
-  built_then = subst (Built m (m.class p)) (sym pieces_then) (one_more ready.built admitted refl ready.not_full ready.fits)
+  built_then = rw pieces_then (one_more ready.built admitted refl ready.not_full ready.fits)
 
   tells_then : Tells m (pieces_in t.container (push qs (placed_in m p t))) (taken_by m p t)
   tells_then =
       let ps : List Piece = pieces_in t.container qs in
-      subst (λ l. Tells m l (taken_by m p t)) (sym pieces_then)
+      rw pieces_then
       (record {
         count = omega (arith, length_push ps p, ready.tells.count);
         level = omega (arith, sum_by_push m.load ps p, ready.tells.level);
@@ -77,7 +76,7 @@ module _ (m : Meaning) (law : Lawful m) (qs : List Placed) (s : Ledger) (sound :
   group_then n low high =
       elim (cases_eq n t.container) [
         | inl e ↦
-            subst (Group m (push qs (placed_in m p t))) (sym e)
+            rw e
             (let cost : m.cost (m.class p) ≡ m.cost (class_in t.container (push qs (placed_in m p t))) = ap m.cost (sym ready.ours_then) in
             record {
               some = some_then;
@@ -101,14 +100,14 @@ module _ (m : Meaning) (law : Lawful m) (qs : List Placed) (s : Ledger) (sound :
       let apart : t.container ≡ n → ⊥ = λ e. ne (sym o.ours ∙ ap (λ k. class_in k qs) (sym e) ∙ ready.ours (omega (arith, e, o.high))) in
       let ps : pieces_in n (push qs (placed_in m p t)) ≡ pieces_in n qs = pieces_push_other n qs (placed_in m p t) apart in
       let cs : class_in n (push qs (placed_in m p t)) ≡ class_in n qs = class_push_other n qs (placed_in m p t) apart in
-      subst (Open m (push qs (placed_in m p t)) top d) (sym same)
+      rw same
       (record {
         low = o.low;
         high = omega (arith, o.high, ready.grows);
         ours = cs ∙ o.ours;
-        built = subst (Built m d) (sym ps) o.built;
-        tells = subst (λ l. Tells m l (open_in s d)) (sym ps) o.tells;
-        not_full = subst (λ l. full_with m d l ≡ false) (sym ps) o.not_full;
+        built = rw ps o.built;
+        tells = rw ps o.tells;
+        not_full = rw ps o.not_full;
         standing = o.standing;
       })
 
@@ -126,14 +125,11 @@ module _ (m : Meaning) (law : Lawful m) (qs : List Placed) (s : Ledger) (sound :
         (λ d low high ne. ap (λ y. cond (stands y) y.weight 0) (slot_other x d low ne))
         ∙ ap (λ (y : Slot). sum_by (open_weight s) (upto 104) + cond (stands y) y.weight 0) (slot_same x)
 
-    costs_then : m.unit * sum_by (open_cost_in m (after_by m s p x top used)) (upto 104) + m.unit * open_cost_in m s (m.class p) ≡ m.unit * sum_by (open_cost_in m s) (upto 104) + m.unit * cond (stands x) (m.cost (m.class p)) 0
+    costs_then : sum_by (open_cost_in m (after_by m s p x top used)) (upto 104) + open_cost_in m s (m.class p) ≡ sum_by (open_cost_in m s) (upto 104) + cond (stands x) (m.cost (m.class p)) 0
     costs_then =
-        sym (mul-add m.unit _ _)
-        ∙ ap (λ n. m.unit * n)
-        (sum_change (open_cost_in m s) (open_cost_in m (after_by m s p x top used)) 104 (m.class p) is_class.0 is_class.1
+        sum_change (open_cost_in m s) (open_cost_in m (after_by m s p x top used)) 104 (m.class p) is_class.0 is_class.1
         (λ d low high ne. ap (λ y. cond (stands y) (m.cost d) 0) (slot_other x d low ne))
-        ∙ ap (λ (y : Slot). sum_by (open_cost_in m s) (upto 104) + cond (stands y) (m.cost (m.class p)) 0) (slot_same x))
-        ∙ mul-add m.unit _ _
+        ∙ ap (λ (y : Slot). sum_by (open_cost_in m s) (upto 104) + cond (stands y) (m.cost (m.class p)) 0) (slot_same x)
 
     -- what is left to show of x
     sound_then : (stands x ≡ true → Open m (push qs (placed_in m p t)) top (m.class p) x) → m.unit * m.cost (m.class p) + cond (stands x) x.weight 0 ≤ t.weight + m.weight p + m.unit * cond (stands x) (m.cost (m.class p)) 0 → Sound m (push qs (placed_in m p t)) (after_by m s p x top used)
@@ -147,12 +143,12 @@ module _ (m : Meaning) (law : Lawful m) (qs : List Placed) (s : Ledger) (sound :
       groups = group_then;
       opens = λ d low high up.
           elim (cases_eq d (m.class p)) [
-            | inl e ↦ subst (λ k. Open m (push qs (placed_in m p t)) top k (open_in (after_by m s p x top used) k)) (sym e)
-                (subst (Open m (push qs (placed_in m p t)) top (m.class p)) (sym (slot_same x))
+            | inl e ↦ rw e
+                (rw (slot_same x)
                 (open-then (subst (λ y. stands y ≡ true) (ap (open_in (after_by m s p x top used)) e ∙ slot_same x) up)))
             | inr ne ↦ open_other x d low high ne up
           ];
-      ratio = step_sum (m.unit * used) (sum_by (open_weight s) (upto 104)) t.weight (m.unit * open_cost_in m s (m.class p)) s.weight (m.unit * sum_by (open_cost_in m s) (upto 104)) (m.unit * m.cost (m.class p)) (open_weight s (m.class p)) _ _ (m.weight p) _ _ ready.ratio weights_then costs_then heavy;
+      ratio = step_sum m.unit (m.unit * used) (sum_by (open_weight s) (upto 104)) t.weight (open_cost_in m s (m.class p)) s.weight (sum_by (open_cost_in m s) (upto 104)) (m.unit * m.cost (m.class p)) (open_weight s (m.class p)) _ _ (m.weight p) _ _ ready.ratio weights_then costs_then heavy;
     }
 
   taken_stands : stands (taken_by m p t) ≡ true

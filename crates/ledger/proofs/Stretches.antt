@@ -1,6 +1,5 @@
 -- Pieces whose places were told do not overlap. Assumes nothing.
-use Rattle.std.proofs.Common.{◌≡◌, ℕ, ◌+◌, ◌≤◌, List, [], ◌∷◌, ◌++◌, IfOk, None, Ok, Err, Result, sym, refl, ap, ◌∙◌, subst, inl, inr, arith}
-use Rattle.std.specs.List.{All}
+use Rattle.std.proofs.Common.{◌≡◌, ℕ, ◌+◌, ◌≤◌, List, [], ◌∷◌, ◌++◌, IfOk, None, Ok, Err, Result, sym, refl, ap, ◌∙◌, subst, inl, inr, arith, All}
 use Rattle.std.proofs.lemmas.List.{flat_map_more, append-nil, map_push}
 use Rattle.std.proofs.lemmas.List.Elements.{All-nil, All-push, All-weaker}
 use Rattle.std.proofs.lemmas.List.Quantifiers.{all_pairs_push}
@@ -14,7 +13,7 @@ use Rattle.ledger.specs.declared.Slot.{Slot}
 use Rattle.ledger.specs.declared.Ledger.{Ledger}
 use Rattle.ledger.specs.Rules.{Call, a_put, a_report, Ran, then_put, stands, found, fits_found, goes_on, taking, put_answer, put_ledger}
 use Rattle.ledger.specs.Season.{Placed, placed_by, placed, pieces_in}
-use Rattle.ledger.specs.Places.{place_in, Noted, silent, telling, call_of, calls, level_in, AtLevels, none_told, then_silent, then_told, RanLaid, Stretch, covered, stretch_of, stretches, Apart, AllApart, LaidSeason}
+use Rattle.ledger.specs.Places.{place_in, Noted, silent, telling, call_of, calls, level_in, AtLevels, none_told, then_silent, then_told, RanLaid, Stretch, covered, stretch_of, stretches, Apart, LaidSeason}
 use Rattle.ledger.proofs.Bounds.{class_range}
 use Rattle.ledger.proofs.Groups.{placed_then, placed_same, pieces_push_same, pieces_push_other}
 use Rattle.ledger.proofs.Sound.{Sound}
@@ -69,7 +68,7 @@ Inside m h t = t.to ≤ level_in m t.container h
 -- what was inside stays so
 inside_then : (m : Meaning) (n : List Noted) (c : Noted) → All (Inside m (calls n)) (stretches m n) → All (Inside m (calls (n ++ (c ∷ [])))) (stretches m n)
 inside_then m n c h =
-    subst (λ l. All (Inside m l) (stretches m n)) (sym (calls_then n c))
+    rw (calls_then n c)
     (All-weaker (Inside m (calls n)) (Inside m (calls n ++ (c.call ∷ []))) (λ t i. omega (arith, i, level_grows m t.container (calls n) c.call)) (stretches m n) h)
 
 pub laid_season : (m : Meaning) {n : List Noted} → AtLevels m n → LaidSeason m n
@@ -79,8 +78,8 @@ laid_season m (then_silent {n = n} r c) =
     let x : Noted = silent c in
     let same : stretches m (n ++ (x ∷ [])) ≡ stretches m n = stretches_then m n x ∙ ap (λ l. stretches m n ++ l) (covers_none m c) ∙ append-nil (stretches m n) in
     record {
-      no_overlap = subst AllApart (sym same) old.no_overlap;
-      within_level = subst (All (Inside m (calls (n ++ (x ∷ []))))) (sym same) (inside_then m n x old.within_level);
+      no_overlap = rw same old.no_overlap;
+      within_level = rw same (inside_then m n x old.within_level);
     }
 laid_season m (then_told {n = n} r p a) =
     let old : LaidSeason m n = laid_season m r in
@@ -89,15 +88,15 @@ laid_season m (then_told {n = n} r p a) =
     let b : Stretch = record { container = a.container; from = at; to = at + m.load p } in
     let more : stretches m (n ++ (x ∷ [])) ≡ stretches m n ++ (b ∷ []) = stretches_then m n x in
     let front : All (λ t. Apart t b) (stretches m n) = All-weaker (Inside m (calls n)) (λ t. Apart t b) (λ t i e. inl (subst (λ k. t.to ≤ level_in m k (calls n)) e i)) (stretches m n) old.within_level in
-    let here : Inside m (calls (n ++ (x ∷ []))) b = subst (λ l. Inside m l b) (sym (calls_then n x)) (omega (arith, level_more m a.container (calls n) p a refl)) in
+    let here : Inside m (calls (n ++ (x ∷ []))) b = rw (calls_then n x) (omega (arith, level_more m a.container (calls n) p a refl)) in
     record {
-      no_overlap = subst AllApart (sym more) (all_pairs_push Apart (stretches m n) b old.no_overlap front);
-      within_level = subst (All (Inside m (calls (n ++ (x ∷ []))))) (sym more) (All-push (Inside m (calls (n ++ (x ∷ [])))) (stretches m n) b (inside_then m n x old.within_level) here);
+      no_overlap = rw more (all_pairs_push Apart (stretches m n) b old.no_overlap front);
+      within_level = rw more (All-push (Inside m (calls (n ++ (x ∷ [])))) (stretches m n) b (inside_then m n x old.within_level) here);
     }
 
 -- any call that tells no place, as a step of such a season
 pub then_call : (m : Meaning) (n : List Noted) (c : Call) (s : Ledger) → Ran m (calls n ++ (c ∷ [])) s → AtLevels m n → RanLaid m (n ++ (silent c ∷ [])) s
-then_call m n c s ran at = (subst (λ h. Ran m h s) (sym (calls_then n (silent c))) ran, then_silent at c)
+then_call m n c s ran at = (rw (calls_then n (silent c)) ran, then_silent at c)
 
 -- The rules' place is the level by the calls
 
@@ -111,17 +110,17 @@ module _ (m : Meaning) (law : Lawful m) (qs : List Placed) (s : Ledger) (sound :
 
 -- by which the place that a put tells is the level of its container, as the calls before filled it
 pub told_level : (m : Meaning) → Lawful m → (h : List Call) (s : Ledger) → Ran m h s → (p : Piece) (a : Result Placing PutRefusal) → Answered m s p a → IfOk a (λ x. place_in m s p ≡ level_in m x.container h)
-told_level m law h s ran p a (inl x) = subst (λ y. IfOk y (λ z. place_in m s p ≡ level_in m z.container h)) (sym x.1) tt
-told_level m law h s ran p a (inr x) = subst (λ y. IfOk y (λ z. place_in m s p ≡ level_in m z.container h)) (sym x.1) (taking_at_level m law (placed h) s (ran_sound m law ran) p x.0)
+told_level m law h s ran p a (inl x) = rw x.1 tt
+told_level m law h s ran p a (inr x) = rw x.1 (taking_at_level m law (placed h) s (ran_sound m law ran) p x.0)
 
 -- a put that tells its place, as a step of such a season
 module _ (m : Meaning) (law : Lawful m) (n : List Noted) (s : Ledger) (ran : RanLaid m n s) (p : Piece) (places closes : ℕ) where
   noted : (a : Result Placing PutRefusal) → IfOk a (λ x. place_in m s p ≡ level_in m x.container (calls n)) → AtLevels m (n ++ (telling (place_in m s p) p a ∷ []))
   noted (Err r) h = then_silent ran.1 (a_put p (Err r))
-  noted (Ok a) h = subst (λ l. AtLevels m (n ++ (telling l p (Ok a) ∷ []))) (sym h) (then_told ran.1 p a)
+  noted (Ok a) h = rw h (then_told ran.1 p a)
 
   pub then_put_laid : RanLaid m (n ++ (telling (place_in m s p) p (put_answer m s p places closes) ∷ [])) (put_ledger m s p places closes)
   then_put_laid = (
-    subst (λ h. Ran m h (put_ledger m s p places closes)) (sym (calls_then n _)) (then_put ran.0 p places closes),
+    rw (calls_then n _) (then_put ran.0 p places closes),
     noted (put_answer m s p places closes) (told_level m law (calls n) s ran.0 p _ (answered m s p places closes)),
   )
