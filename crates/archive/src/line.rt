@@ -78,23 +78,3 @@ impl From<HeadingLine> for Line {
         Line::Heading(heading)
     }
 }
-
-// Lines of zeros, to fill memory with that is to hold lines.
-pub const NO_PLACE: PlaceLine = PlaceLine {
-    number: 0,
-    first: 0,
-    second: 0,
-    finish: 0,
-    container: 0,
-    class: 0,
-};
-
-pub const NO_CLOSING: ClosingLine = ClosingLine {
-    container: 0,
-    class: 0,
-    pieces: 0,
-    level: 0,
-    weight: 0,
-    used: 0,
-    floor: 0,
-};

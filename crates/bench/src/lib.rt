@@ -7,10 +7,12 @@ ghost use Rattle.kinds.specs.Totes.{totes};
 ghost use Rattle.kinds.specs.Strips.{strips};
 ghost use Rattle.bench.specs.Packed.{Packed};
 
-use archive::line::{ClosingLine, NO_CLOSING, NO_PLACE, PlaceLine};
+use archive::line::{ClosingLine, PlaceLine};
 use draws::Generator;
 use kinds::Kind;
 use kinds::bars::Bars;
+use kinds::capacity::Capacity;
+use kinds::figures::ClassNumber;
 use kinds::piece::Piece;
 use kinds::strips::Strips;
 use kinds::totes::Totes;
@@ -51,8 +53,8 @@ fn pack<K: Kind + Drop>(kind: K, heights: u32, pieces: u32, sum: &mut u64) -> u6
     let mut packer = Packer::new(kind);
     for i in 0..pieces {
         let piece = drawn_piece(&mut draw, i / 2 + 1, heights);
-        let mut place_memory = [NO_PLACE; 1];
-        let mut closing_memory = [NO_CLOSING; 2];
+        let mut place_memory = [PlaceLine::default(); 1];
+        let mut closing_memory = [ClosingLine::default(); 2];
         let mut places = Lines::new(&mut place_memory);
         let mut closings = Lines::new(&mut closing_memory);
         let _ = packer.put(piece, &mut places, &mut closings);
@@ -62,11 +64,11 @@ fn pack<K: Kind + Drop>(kind: K, heights: u32, pieces: u32, sum: &mut u64) -> u6
 }
 
 fn thousand() -> Bars
-    ensures { (result.capacity ≡ 1000) × (result.k ≡ 12) }
+    ensures { (result.capacity.value ≡ 1000) × (result.k.value ≡ 12) }
 {
     Bars {
-        capacity: 1000,
-        k: 12,
+        capacity: Capacity { value: 1000 },
+        k: ClassNumber { value: 12 },
     }
 }
 
@@ -92,5 +94,6 @@ pub extern "C" fn packed_totes(pieces: u32, sum: &mut u64) -> u64
 pub extern "C" fn packed_strips(pieces: u32, sum: &mut u64) -> u64
     ensures { Packed (strips 1000) result }
 {
-    pack(Strips { width: 1000 }, 64, pieces, sum)
+    let width = Capacity { value: 1000 };
+    pack(Strips { width }, 64, pieces, sum)
 }

@@ -2,7 +2,7 @@
 use crate::plan::{KindName, Layer, Plan};
 use crate::readings::written;
 use crate::text::{Bytes, Fields};
-use archive::line::{HeadingLine, Line, NO_CLOSING, NO_PLACE};
+use archive::line::{ClosingLine, HeadingLine, Line, PlaceLine};
 use draws::Generator;
 use kinds::Kind;
 use kinds::bars::Bars;
@@ -26,11 +26,11 @@ pub struct Size {
 
 impl Size {
     // A list with that room, behind lines of zeros.
-    fn list<'a, T: Copy>(self, memory: &'a mut [T; 4], zeros: T) -> Lines<'a, T> {
+    fn list<'a, T: Copy + Default>(self, memory: &'a mut [T; 4]) -> Lines<'a, T> {
         let length = self.room.saturating_add(self.old).min(4);
         let mut lines = Lines::new(&mut memory[..length as usize]);
         for _ in 0..self.old {
-            let _ = lines.add(zeros);
+            let _ = lines.add(T::default());
         }
         lines
     }
@@ -78,10 +78,10 @@ fn put_text<K: Kind>(
     place_size: Size,
     closing_size: Size,
 ) -> anyhow::Result<()> {
-    let mut place_memory = [NO_PLACE; 4];
-    let mut closing_memory = [NO_CLOSING; 4];
-    let mut places = place_size.list(&mut place_memory, NO_PLACE);
-    let mut closings = closing_size.list(&mut closing_memory, NO_CLOSING);
+    let mut place_memory = [PlaceLine::default(); 4];
+    let mut closing_memory = [ClosingLine::default(); 4];
+    let mut places = place_size.list(&mut place_memory);
+    let mut closings = closing_size.list(&mut closing_memory);
     answer_text(text, &packer.put(piece, &mut places, &mut closings))?;
     gained_text(text, "l", &places, place_size.old, Line::Place)?;
     gained_text(text, "c", &closings, closing_size.old, Line::Closing)
@@ -111,7 +111,7 @@ impl Plan {
             KindName::Strips => (0, 0),
         };
         Ok(HeadingLine {
-            code: K::kind_code(),
+            code: K::CODE,
             capacity: self.capacity,
             k: u8::try_from(k)?,
             limit: u8::try_from(limit)?,

@@ -26,7 +26,7 @@ fn piece(number: u32, first: u32, second: u32, finish: u8) -> Piece {
 
 // The figures of a kind, and how far apart any plan and ours can lie.
 fn show_kind<K: Kind>(rt: &impl Print, title: &str, kind: &K) -> io::Result<()> {
-    let code = K::kind_code();
+    let code = K::CODE;
     let classes = kind.classes();
     let unit = kind.unit();
     let ceiling = kind.ceiling();

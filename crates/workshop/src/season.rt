@@ -1,6 +1,6 @@
 // A season from beginning to end: a pile, its heading, pieces one by one, the report, the archive.
 use crate::lines::Reading;
-use archive::line::{ClosingLine, HeadingLine, Line, NO_CLOSING, NO_PLACE};
+use archive::line::{ClosingLine, HeadingLine, Line, PlaceLine};
 use archive::writer::write;
 use kinds::Kind;
 use kinds::bars::Bars;
@@ -37,8 +37,8 @@ impl Season {
 
     // One put, with a note of what it did; its lines go into the archive.
     fn put(&mut self, rt: &impl Print, piece: Piece) -> anyhow::Result<()> {
-        let mut place_memory = [NO_PLACE; 1];
-        let mut closing_memory = [NO_CLOSING; 2];
+        let mut place_memory = [PlaceLine::default(); 1];
+        let mut closing_memory = [ClosingLine::default(); 2];
         let mut places = Lines::new(&mut place_memory);
         let mut closings = Lines::new(&mut closing_memory);
         let answer = self.packer.put(piece, &mut places, &mut closings);
@@ -147,7 +147,7 @@ pub(crate) fn show_season(rt: &HostRuntime) -> anyhow::Result<()> {
     };
     let standing = season.packer.standing_cost();
     season.store(&Line::Heading(HeadingLine {
-        code: Pile::kind_code(),
+        code: Pile::CODE,
         capacity: 6000,
         k: 3,
         limit: 0,
