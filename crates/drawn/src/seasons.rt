@@ -42,10 +42,10 @@ fn answer_text(text: &mut String, answer: &Result<Placing, PutRefusal>) -> Resul
         Ok(placing) => {
             writeln!(text, "p {} {}", placing.container, placing.class)?;
             if let Some(before) = placing.before {
-                writeln!(text, "b{}", Fields(&Line::Closing(before)))?;
+                writeln!(text, "b{}", Fields(&before.into()))?;
             }
             if let Some(after) = placing.after {
-                writeln!(text, "f{}", Fields(&Line::Closing(after)))?;
+                writeln!(text, "f{}", Fields(&after.into()))?;
             }
             Ok(())
         }
@@ -53,17 +53,14 @@ fn answer_text(text: &mut String, answer: &Result<Placing, PutRefusal>) -> Resul
 }
 
 // The lines behind those that were in the list before, each with its bytes.
-fn gained_text<T: Copy, F: Fn(T) -> Line>(
+fn gained_text<T: Copy + Into<Line>>(
     text: &mut String,
     letter: &str,
     lines: &Lines<T>,
     old: u32,
-    line_of: F,
-) -> anyhow::Result<()>
-    requires { F.IsAlwaysCallable line_of }
-{
+) -> anyhow::Result<()> {
     for line in lines.view().iter().skip(old as usize) {
-        let line = line_of(*line);
+        let line = (*line).into();
         let mut memory = [0; 64];
         writeln!(text, "{letter}{}", Fields(&line))?;
         writeln!(text, "{}", Bytes(written(&line, &mut memory)?))?;
@@ -83,8 +80,8 @@ fn put_text<K: Kind>(
     let mut places = place_size.list(&mut place_memory);
     let mut closings = closing_size.list(&mut closing_memory);
     answer_text(text, &packer.put(piece, &mut places, &mut closings))?;
-    gained_text(text, "l", &places, place_size.old, Line::Place)?;
-    gained_text(text, "c", &closings, closing_size.old, Line::Closing)
+    gained_text(text, "l", &places, place_size.old)?;
+    gained_text(text, "c", &closings, closing_size.old)
 }
 
 fn report_text(text: &mut String, report: &Report) -> Result<(), AllocError> {
@@ -175,11 +172,7 @@ impl Calls<'_> {
         } = heading;
         let mut memory = [0; 64];
         writeln!(text, "h {code} {classes} {unit} {ceiling} {standing}")?;
-        writeln!(
-            text,
-            "{}",
-            Bytes(written(&Line::Heading(heading), &mut memory)?)
-        )?;
+        writeln!(text, "{}", Bytes(written(&heading.into(), &mut memory)?))?;
         let calls = draw.below(50) + 10;
         for _ in 0..calls {
             if draw.below(20) == 0 {
