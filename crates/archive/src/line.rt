@@ -27,6 +27,7 @@ pub struct ClosingLine {
 // The measures and figures of a pile.
 #[derive(Clone, Copy, PartialEq, Eq, Default, Debug)]
 pub struct HeadingLine {
+    // any number: the archive keeps what it is given, and a kind from outside has a code of its own
     pub code: u8,
     // capacity or width
     pub capacity: u32,

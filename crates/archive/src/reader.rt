@@ -40,6 +40,8 @@ fn read_sort<const N: usize, S: Sort<N>>(
     let mut values = [0; N];
     let mut at = 2;
     let mut left = bits;
+    // The place by its index: over `values.iter_mut().zip(..)` the proof did not close, since the loop's
+    // invariant cannot speak of `values` then.
     for (i, &width) in S::WIDTHS.iter().enumerate() {
         if left % 2 == 1 {
             values[i] = field_at(bytes, at, width as usize)?;
@@ -50,7 +52,8 @@ fn read_sort<const N: usize, S: Sort<N>>(
     Ok((S::from_values(&values).into(), at))
 }
 
-// The field of `width` bytes at `at`.
+// The field of `width` bytes at `at`. Of the bytes from there on it would be no plainer, as a refusal
+// tells the offset.
 fn field_at(bytes: &[u8], at: usize, width: usize) -> Result<u64, ReadRefusal>
     requires inside { at ≤ length bytes.now }
     requires narrow { width ≤ 8 }

@@ -8,7 +8,7 @@ use crate::sort::Sort;
 use refusals::WriteRefusal;
 
 // Stores the line at the front of the bytes, and tells its length. Bytes behind it stay, and where
-// there is no room for it all of them do.
+// there is no room for it all of them do. The memory is the caller's, since the archive uses no heap.
 #[tactic(auto, using(crate::proofs::Numbers::mask_bit))]
 pub fn write(line: &Line, bytes: &mut [u8]) -> Result<usize, WriteRefusal>
     ensures value { result ≡ write_answer (encode line.now) bytes.old }

@@ -1,4 +1,5 @@
-// The measures and layers drawn for one season, before anything is made of them.
+// The measures and layers drawn for one season, before anything is made of them. What is drawn is a
+// number, so its choices are a match or an `if` on it: closures in a table would be no plainer.
 use draws::Generator;
 use kinds::piece::Piece;
 

@@ -38,6 +38,9 @@ pub const SAMPLES: [Line; 3] = [
     }),
 ];
 
+// What builds a text or bytes of its own takes the heap beside the text that it writes to: a struct of
+// the two would be no plainer.
+
 // The bytes of a line, at the front of the memory.
 pub(crate) fn written<'a>(line: &Line, memory: &'a mut [u8]) -> Result<&'a [u8], WriteRefusal> {
     let length = write(line, memory)?;
@@ -238,6 +241,7 @@ pub(crate) fn spoilt(heap: Global, text: &mut String, line: &Line) -> anyhow::Re
     let bytes = written(line, &mut memory)?;
     writeln!(text, "{}", Bytes(bytes))?;
     too_short(heap, text, line, bytes.len())?;
+    // Here and below the index is what is tried: an iterator would be no plainer, as it would carry it.
     for cut in 0..bytes.len() {
         answer_text(text, &read(&bytes[..cut]))?;
     }

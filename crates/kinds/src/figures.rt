@@ -2,15 +2,15 @@
 ghost use Rattle.std.specs.Prelude.{◌≡◌, ℕ, ◌-◌, ◌*◌, ◌%◌, ◌<◌, ◌≤◌, false, MatchResult, slice_index};
 ghost use Rattle.refusals.specs.declared.MakeRefusal.TheVariants.{ClassNumber as NoClassNumber};
 ghost use Rattle.kinds.specs.Kind.{between};
-ghost use Rattle.kinds.specs.Figures.{multiple, listed_multiples, unit_factor, ceiling_factor};
+ghost use Rattle.kinds.specs.Figures.{multiple, unit_factor, ceiling_factor};
 
 use refusals::MakeRefusal;
 
-// The least common multiple of 1 to k - 1, for k from 2 on.
+// The least common multiple of 1 to k - 1.
 const MULTIPLES: [u64; 11] = [1, 2, 6, 12, 60, 60, 420, 840, 2520, 2520, 27720];
 
-// What the ceiling is for each unit of capacity, for k from 2 on. A table of its own: of pairs it
-// would be no plainer, since L is proved what it is and p is what its list says.
+// What the ceiling is for each unit of capacity. A table of its own: of pairs it would be no plainer,
+// since L is proved what it is and p is what its list says.
 const CEILING_FACTORS: [u64; 11] = [2, 7, 31, 82, 510, 610, 4980, 11380, 38400, 42660, 516120];
 
 // From 2 to 12: so many harmonic classes.
@@ -36,10 +36,11 @@ impl TryFrom<u32> for ClassNumber {
 }
 
 impl ClassNumber {
-    fn listed_multiple(self) -> u64
-        ensures { result ≡ slice_index listed_multiples (self.value - 2) }
+    // What a table has for k, whose numbers are for k from 2 on.
+    fn listed(self, table: &[u64; 11]) -> u64
+        ensures { result ≡ slice_index table.now (self.value - 2) }
     {
-        MULTIPLES[(self.value - 2) as usize]
+        table[(self.value - 2) as usize]
     }
 
     // L: a multiple of each of 1 to k - 1, and the least.
@@ -50,7 +51,7 @@ impl ClassNumber {
         ensures least { (n : ℕ) → 1 ≤ n → ((j : ℕ) → 1 ≤ j → j < self.value → n % j ≡ 0) → result ≤ n }
         ensures most { result ≤ 27720 }
     {
-        self.listed_multiple()
+        self.listed(&MULTIPLES)
     }
 
     // u: what the unit is for each unit of capacity.
@@ -74,6 +75,6 @@ impl ClassNumber {
         ensures value { result ≡ ceiling_factor self.value }
         ensures most { result ≤ 516120 }
     {
-        CEILING_FACTORS[(self.value - 2) as usize]
+        self.listed(&CEILING_FACTORS)
     }
 }

@@ -16,8 +16,8 @@ use piece::Piece;
 use refusals::PieceRefusal;
 
 // A lawful kind of container. Of a piece that is not admitted, and of a class that it does not
-// have, a kind tells 0 or no. An Option would be no plainer: the law says 0, and the archive has 0
-// for what is absent, so each caller would turn None back into it.
+// have, a kind tells 0 or no. These calls answer for every piece and class, and an Option would be no
+// plainer: the law says 0, so each caller would turn None back into it.
 pub trait Kind {
     // The kind code: 1 for bars, 2 for totes, 3 for strips. A number and no enum, since any crate may
     // add a kind, and no list here could name it.
