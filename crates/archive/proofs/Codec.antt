@@ -1,7 +1,7 @@
 -- The two theorems on whole lines: what is written reads back, and what reads was written. Assumes nothing.
 use Rattle.std.proofs.Common.{◌≡◌, ℕ, suc, ◌+◌, ◌*◌, ◌/◌, ◌%◌, ◌^◌, ◌<◌, ◌≤◌, Bool, true, false, cond, eqb, List, [], ◌∷◌, ◌++◌, length, get_or, take, drop, Ok, Err, Result, sym, refl, ap, ◌∙◌, subst, inl, inr, arith, length-drop, take-add, pow_mono}
 use Rattle.std.proofs.lemmas.List.{length-take-le}
-use Rattle.std.proofs.ByRecursion.{All-take, All-drop}
+use Rattle.std.proofs.lemmas.List.Elements.{All-take, All-drop}
 use Rattle.std.proofs.lemmas.Bool.{cond-true, cond-false, le-ltb, lt-ltb, lt-leb, ltb-false, leb-false, cases_lt}
 use Rattle.archive.specs.declared.line.PlaceLine.{PlaceLine}
 use Rattle.archive.specs.declared.line.ClosingLine.{ClosingLine}

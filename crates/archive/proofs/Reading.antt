@@ -1,10 +1,10 @@
 -- Fields written are read, and fields read were written, at any widths and values.
-use Rattle.std.proofs.Common.{◌≡◌, ℕ, ◌+◌, ◌*◌, ◌/◌, ◌%◌, ◌^◌, ◌<◌, ◌≤◌, Bool, true, false, cond, eqb, ltb, List, [], ◌∷◌, ◌++◌, length, take, drop, Ok, Err, Result, sym, refl, ap, ◌∙◌, ⊎_elim, append_assoc, pow-suc, arith, length-append, length-drop, take-add}
+use Rattle.std.proofs.Common.{All, ◌≡◌, ℕ, ◌+◌, ◌*◌, ◌/◌, ◌%◌, ◌^◌, ◌<◌, ◌≤◌, Bool, true, false, cond, eqb, ltb, List, [], ◌∷◌, ◌++◌, length, take, drop, Ok, Err, Result, sym, refl, ap, ◌∙◌, ⊎_elim, append_assoc, pow-suc, arith, length-append, length-drop, take-add}
 use native.Mathlib.Nat.{pow-le-pow_right}
-use Rattle.std.specs.Int.Digits.{number_from_digits, AllBelowBase}
+use Rattle.std.specs.Int.Digits.{number_from_digits}
 use Rattle.std.proofs.lemmas.Int.Digits.{number_lt}
 use Rattle.std.proofs.lemmas.List.{append-nil, take_at, drop_at, length-take-le}
-use Rattle.std.proofs.ByRecursion.{All-take, All-drop}
+use Rattle.std.proofs.lemmas.List.Elements.{All-take, All-drop, recursion_from_All}
 use Rattle.std.proofs.lemmas.Bool.{cond-true, cond-false, eq-eqb, ne_eqb, le-ltb, eqb-false, ltb-false, cases_eq}
 use Rattle.refusals.specs.declared.ReadRefusal.{ReadRefusal}
 use Rattle.refusals.specs.declared.ReadRefusal.TheVariants.{Ended, Zero}
@@ -90,7 +90,7 @@ pub record Told (done ws : List ℕ) (m at : ℕ) (bs all : List ℕ) (n : ℕ) 
   pub within : length (written ws vs) ≤ length bs
   pub front : take (length (written ws vs)) bs ≡ written ws vs
 
-pub fields_told : (done ws : List ℕ) (m at : ℕ) (bs all : List ℕ) (n : ℕ) → AllBelowBase 256 bs → m < 2 ^ length ws → fields done ws m at bs ≡ Ok (all, n) → (vs : List ℕ) × Told done ws m at bs all n vs
+pub fields_told : (done ws : List ℕ) (m at : ℕ) (bs all : List ℕ) (n : ℕ) → All (λ b. b < 256) bs → m < 2 ^ length ws → fields done ws m at bs ≡ Ok (all, n) → (vs : List ℕ) × Told done ws m at bs all n vs
 fields_told done [] m at bs all n u small e =
     let a = append-nil done in
     let z : at + 0 ≡ at = omega arith in
@@ -118,7 +118,7 @@ fields_told done (w ∷ ws) m at bs all n u small e =
     let front_long : length (take w bs) ≡ w = length-take-le w bs long in
     let small_bytes = All-take (λ b. b < 256) w bs u in
     let bytes : bytes_of w x ≡ take w bs = bytes_of_number w (take w bs) front_long small_bytes in
-    let below : x < 256 ^ w = rw front_long at (number_lt 256 (take w bs) small_bytes) in
+    let below : x < 256 ^ w = rw front_long at (number_lt 256 (take w bs) (recursion_from_All (λ b. b < 256) (take w bs) small_bytes)) in
     let text : written (w ∷ ws) (x ∷ p.0) ≡ take w bs ++ written ws p.0 = written_with w ws x p.0 some ∙ ap (λ y. y ++ written ws p.0) bytes in
     let size : length (written (w ∷ ws) (x ∷ p.0)) ≡ w + length (written ws p.0) = ap length text ∙ (length-append (take w bs) (written ws p.0) ∙ ap (λ y. y + length (written ws p.0)) front_long) in (
       x ∷ p.0,

@@ -4,7 +4,7 @@ use native.Mathlib.Nat.{div-eq_of_lt, mod-lt, div-add-mod'}
 use Rattle.std.proofs.lemmas.Nat.{pow_pos}
 use Rattle.std.specs.Int.Digits.{number_from_digits}
 use Rattle.std.proofs.lemmas.List.{take_more, take_more_set, take_all, drop_more, drop-drop, drop_all}
-use Rattle.std.proofs.ByRecursion.{All-from_get_or, All-drop}
+use Rattle.std.proofs.lemmas.List.Elements.{All-from_get_or, All-drop}
 use Rattle.std.proofs.lemmas.Bool.{le-leb, lt-leb, cond-true, cond-false, le-ltb, lt-ltb, ltb-false, cases_eq, cases_lt}
 use Rattle.refusals.specs.declared.ReadRefusal.{ReadRefusal}
 use Rattle.refusals.specs.declared.ReadRefusal.TheVariants.{Ended, NoField, Zero}

@@ -1,6 +1,5 @@
 -- The three sorts of archive line: what the writer writes and what the reader reads. Assumes nothing.
-use Rattle.std.specs.Prelude.{◌≡◌, ℕ, ◌/◌, ◌%◌, ◌^◌, ◌<◌, ◌≤◌, cond, List, [], ◌∷◌, ◌++◌, length, take, drop, Ok, Err, Result, ◌==◌, nat_le, nat_lt}
-use Rattle.std.specs.List.{AllByRecursion}
+use Rattle.std.specs.Prelude.{◌≡◌, ℕ, ◌/◌, ◌%◌, ◌^◌, ◌<◌, ◌≤◌, cond, All, List, [], ◌∷◌, ◌++◌, length, take, drop, Ok, Err, Result, ◌==◌, nat_le, nat_lt}
 use Rattle.std.specs.Int.Digits.{number_from_digits}
 use Rattle.refusals.specs.declared.WriteRefusal.{WriteRefusal}
 use Rattle.refusals.specs.declared.ReadRefusal.{ReadRefusal}
@@ -139,7 +138,7 @@ Reads bs r = told r ≡ decode bs
 
 -- numbers that are bytes
 abbrev pub Bytes : List ℕ → Type 0
-Bytes bs = AllByRecursion (λ b. b < 256) bs
+Bytes bs = All (λ b. b < 256) bs
 
 -- The law that binds both
 
