@@ -60,7 +60,8 @@ fn survey<const N: usize, S: Sort<N>>(values: &[u64; N]) -> (u16, usize)
     (bits, size)
 }
 
-// Writes the fields that are not 0 to the front of the bytes.
+// Writes the fields that are not 0 to the front of the bytes. A position goes along: bytes that are
+// split at each turn would be no plainer, as each part has to be given back.
 fn put_fields<const N: usize, S: Sort<N>>(bytes: &mut [u8], values: &[u64; N])
     requires { length (written S.WIDTHS values.now) ≤ length bytes.old }
     ensures { bytes.new ≡ written S.WIDTHS values.now ++ drop (length (written S.WIDTHS values.now)) bytes.old }

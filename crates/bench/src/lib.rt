@@ -72,6 +72,8 @@ fn thousand() -> Bars
     }
 }
 
+// The functions that C calls; how many pieces, and the sum, are what C passes.
+
 // Over bars of 1000 in twelve classes.
 #[unsafe(no_mangle)]
 pub extern "C" fn packed_bars(pieces: u32, sum: &mut u64) -> u64

@@ -22,7 +22,8 @@ pub struct Plan {
     pub capacity: u32,
     pub k: u32,
     pub limit: u32,
-    // from the bottom up
+    // from the bottom up; an array, since each height of a pile is a type and so there are three, and a
+    // Vec would be no plainer
     pub layers: [Option<Layer>; 3],
     // the sum of the allowances
     pub allowances: u16,

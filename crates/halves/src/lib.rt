@@ -25,6 +25,7 @@ fn is_sized(piece: &Piece) -> bool
     (1..=2).contains(&piece.first)
 }
 
+// As in bars, two questions whose answers read alike stay apart.
 impl Kind for Halves {
     const CODE: u8 = 9;
 
