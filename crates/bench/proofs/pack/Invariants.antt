@@ -1,5 +1,4 @@
-use mathlib.Core.Path.{◌≡◌}
-use mathlib.Core.List.{List}
+use Rattle.std.proofs.Common.{◌≡◌, List}
 use Rattle.ledger.specs.Rules.{Call, Ran}
 use Rattle.bench.proofs.pack.Given as goal
 

@@ -1,16 +1,10 @@
-use Rattle.std.proofs.Common.{◌≡◌, true, ◌+◌, ◌^◌, ◌<◌, ◌≤◌, length, get_or, drop, Ok, Err, sym, ap, ◌∙◌, arith, length-set}
+use Rattle.std.proofs.Common.{◌≡◌, true, ◌+◌, ◌^◌, ◌<◌, length, get_or, drop, Ok, Err, sym, ap, ◌∙◌, arith, length-set}
 use Rattle.std.proofs.lemmas.List.{get_or-set_other}
 use Rattle.std.proofs.lemmas.Result.{err_from_is_err_and}
 use Rattle.archive.specs.Fields.{field}
-use Rattle.archive.specs.Lines.{values}
-use Rattle.archive.proofs.Turns.{even_from, over_from, below_from, turn_stands, turn_absent, turn_stopped, turns_end, room, fields_fit, parsed_over, parsed_fields}
+use Rattle.archive.proofs.Turns.{even_from, below_from, turn_stands, turn_absent, turn_stopped, turns_end, room, fields_fit, parsed_fields}
 use Rattle.archive.proofs.reader.read_sort.Goals as goal
 use Rattle.archive.proofs.reader.read_sort.Goals.{then-left-eq1+in_ok-values, else-left-eq1}
-
-pub returns-then-bits-ne0 : goal.returns-then-bits-ne0
-returns-then-bits-ne0 g c =
-    let over : 2 ^ length g.S.Sort.WIDTHS ≤ c.args.bits = rw g.met.S.Sort.many (over_from c.args.bits g.row.N c.if-bits-ne0.true) in
-    parsed_over g.S.Sort.TAG c.args.bits c.args.bytes.now g.S.Sort.WIDTHS g.met.S.Sort.widths over
 
 pub returns-in_err-values : goal.returns-in_err-values
 returns-in_err-values g c =
@@ -57,14 +51,3 @@ from_values-requires g c =
     let below : c.args.bits < 2 ^ length ws = rw g.met.S.Sort.many (below_from c.args.bits g.row.N c.if-bits-ne0.false) in
     let all = turns_end vs ws (drop c.loop-i.at c.args.bytes.now) c.loop-i.i c.loop-i.left c.loop-i.at _ (omega (arith, g.met.S.Sort.many)) (omega (arith, g.met.S.Sort.many, c.loop-i.invariant.many)) c.loop-i.invariant.step in
     (omega (arith, g.met.S.Sort.few), fields_fit ws c.args.bits c.args.bytes.now vs c.loop-i.at (λ i. omega (arith, c.type_inv.bytes i)) below all)
-
-pub returns : goal.returns
-returns g c =
-    let t = g.S.Sort.TAG in
-    let ws = g.S.Sort.WIDTHS in
-    let vs = c.loop-i.values in
-    let below : c.args.bits < 2 ^ length ws = rw g.met.S.Sort.many (below_from c.args.bits g.row.N c.if-bits-ne0.false) in
-    let all = turns_end vs ws (drop c.loop-i.at c.args.bytes.now) c.loop-i.i c.loop-i.left c.loop-i.at _ (omega (arith, g.met.S.Sort.many)) (omega (arith, g.met.S.Sort.many, c.loop-i.invariant.many)) c.loop-i.invariant.step in
-    let is = g.met.S.Sort.is_line c.from_values.result c.into.result c.into.ensures in
-    ap (λ x. Ok ((x, values c.into.result), c.loop-i.at)) is.0
-    ∙ (ap (λ x. Ok ((t, x), c.loop-i.at)) (is.1 ∙ c.from_values.ensures) ∙ parsed_fields t c.args.bits c.args.bytes.now ws g.met.S.Sort.widths below (Ok (vs, c.loop-i.at)) all)
