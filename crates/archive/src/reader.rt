@@ -19,9 +19,9 @@ pub fn read(bytes: &[u8]) -> Result<(Line, usize), ReadRefusal>
     let map = number(map);
     let bits = (map % 16384) as u16;
     match map / 16384 {
-        0 => read_sort::<_, PlaceLine>(bytes, bits),
-        1 => read_sort::<_, ClosingLine>(bytes, bits),
-        2 => read_sort::<_, HeadingLine>(bytes, bits),
+        PlaceLine::TAG => read_sort::<_, PlaceLine>(bytes, bits),
+        ClosingLine::TAG => read_sort::<_, ClosingLine>(bytes, bits),
+        HeadingLine::TAG => read_sort::<_, HeadingLine>(bytes, bits),
         _ => Err(ReadRefusal::NoField { at: 0 }),
     }
 }
@@ -69,7 +69,8 @@ fn field_at(bytes: &[u8], at: usize, width: usize) -> Result<u64, ReadRefusal>
     Ok(value)
 }
 
-// The number that the bytes are, high byte first.
+// The number that the bytes are, high byte first. There may be fewer than eight, so `from_be_bytes`
+// would be no plainer: they would have to be copied behind zeros.
 fn number(bytes: &[u8]) -> u64
     requires { length bytes.now ≤ 8 }
     ensures { result ≡ number_from_digits 256 bytes.now }

@@ -17,7 +17,7 @@ pub(crate) trait Sort<const N: usize>: Into<Line> {
     ghost fields: { List (Field Self) };
 
     // The top two bits of the map.
-    const TAG: u16;
+    const TAG: u64;
 
     // The fields' widths in bytes.
     const WIDTHS: [u8; N];
@@ -68,7 +68,7 @@ impl Sort<6> for PlaceLine {
 
     ghost is_line = { λ _ _ e. (ap tag e, ap values_in e) };
 
-    const TAG: u16 = 0;
+    const TAG: u64 = 0;
 
     const WIDTHS: [u8; 6] = [4, 4, 4, 1, 4, 1];
 
@@ -117,7 +117,7 @@ impl Sort<7> for ClosingLine {
 
     ghost is_line = { λ _ _ e. (ap tag e, ap values_in e) };
 
-    const TAG: u16 = 1;
+    const TAG: u64 = 1;
 
     const WIDTHS: [u8; 7] = [4, 1, 4, 4, 8, 8, 8];
 
@@ -127,7 +127,7 @@ impl Sort<7> for ClosingLine {
             self.class as u64,
             self.pieces as u64,
             self.level as u64,
-            // a call, from whose type the check knows that this is below 2 ^ 64
+            // `u64::from` of a u64: with the field alone the proof of `fit` did not close
             u64::from(self.weight),
             u64::from(self.used),
             u64::from(self.floor),
@@ -169,7 +169,7 @@ impl Sort<9> for HeadingLine {
 
     ghost is_line = { λ _ _ e. (ap tag e, ap values_in e) };
 
-    const TAG: u16 = 2;
+    const TAG: u64 = 2;
 
     const WIDTHS: [u8; 9] = [1, 4, 1, 1, 2, 1, 8, 8, 4];
 
@@ -181,7 +181,7 @@ impl Sort<9> for HeadingLine {
             self.limit as u64,
             self.allowance as u64,
             self.finishes as u64,
-            // a call, from whose type the check knows that this is below 2 ^ 64
+            // `u64::from` of a u64: with the field alone the proof of `fit` did not close
             u64::from(self.unit),
             u64::from(self.ceiling),
             self.standing as u64,

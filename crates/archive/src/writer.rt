@@ -35,8 +35,8 @@ fn write_sort<const N: usize, S: Sort<N>>(line: &S, bytes: &mut [u8]) -> Result<
     if bytes.len() < needed {
         return Err(WriteRefusal { needed });
     }
-    let map = S::TAG * 16384 + bits;
-    put_number(&mut bytes[..2], map as u64);
+    let map = S::TAG * 16384 + bits as u64;
+    put_number(&mut bytes[..2], map);
     put_fields::<_, S>(&mut bytes[2..], &values);
     Ok(needed)
 }
@@ -60,8 +60,8 @@ fn survey<const N: usize, S: Sort<N>>(values: &[u64; N]) -> (u16, usize)
     (bits, size)
 }
 
-// Writes the fields that are not 0 to the front of the bytes. A position goes along: bytes that are
-// split at each turn would be no plainer, as each part has to be given back.
+// Writes the fields that are not 0 to the front of the bytes. A position goes along: a `&mut` to the
+// rest that moves on at each turn would be no plainer, since the contract speaks of all bytes.
 fn put_fields<const N: usize, S: Sort<N>>(bytes: &mut [u8], values: &[u64; N])
     requires { length (written S.WIDTHS values.now) ≤ length bytes.old }
     ensures { bytes.new ≡ written S.WIDTHS values.now ++ drop (length (written S.WIDTHS values.now)) bytes.old }

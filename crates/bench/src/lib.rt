@@ -57,6 +57,7 @@ fn pack<K: Kind + Drop>(kind: K, heights: u32, pieces: u32, sum: &mut u64) -> u6
         let mut closing_memory = [ClosingLine::default(); 2];
         let mut places = Lines::new(&mut place_memory);
         let mut closings = Lines::new(&mut closing_memory);
+        // what a refused put adds is nothing, and the lists show the rest
         let _ = packer.put(piece, &mut places, &mut closings);
         *sum = added(*sum, places.view(), closings.view());
     }

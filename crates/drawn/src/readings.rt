@@ -1,4 +1,5 @@
-// Archive lines, sound and spoilt, and what the reader answers.
+// Archive lines, sound and spoilt, and what the reader answers. As in a plan, what is drawn is a number,
+// and choices are a match or an `if` on it.
 use crate::text::{Bytes, Fields, START, sum_of};
 use archive::line::{ClosingLine, HeadingLine, Line, PlaceLine};
 use archive::reader::read;
@@ -38,8 +39,8 @@ pub const SAMPLES: [Line; 3] = [
     }),
 ];
 
-// What builds a text or bytes of its own takes the heap beside the text that it writes to: a struct of
-// the two would be no plainer.
+// What builds a text or bytes of its own takes the heap beside the text that it writes to: a text hands
+// its heap on, but a caller's name for it is plainer.
 
 // The bytes of a line, at the front of the memory.
 pub(crate) fn written<'a>(line: &Line, memory: &'a mut [u8]) -> Result<&'a [u8], WriteRefusal> {
@@ -54,6 +55,7 @@ fn answer_text(
 ) -> Result<(), AllocError> {
     match answer {
         Ok((line, length)) => {
+            // as the page on drawn cases numbers them
             let sort = match line {
                 Line::Place(_) => 0,
                 Line::Closing(_) => 1,
@@ -131,9 +133,7 @@ fn byte(draw: &mut Generator) -> u8 {
 fn field<const WIDTH: usize>(draw: &mut Generator) -> [u8; WIDTH] {
     let mut bytes = [0; WIDTH];
     if draw.below(3) != 0 {
-        for place in &mut bytes {
-            *place = byte(draw);
-        }
+        bytes.fill_with(|| byte(draw));
     }
     bytes
 }
@@ -171,7 +171,7 @@ fn drawn_line(draw: &mut Generator) -> Line {
     }
 }
 
-fn set_byte(bytes: &mut Vec<u8>, at: usize, value: u8) {
+fn set_byte(bytes: &mut [u8], at: usize, value: u8) {
     if let Some(byte) = bytes.get_mut(at) {
         *byte = value;
     }
@@ -216,14 +216,9 @@ pub(crate) fn reading(heap: Global, text: &mut String, i: u32) -> anyhow::Result
 }
 
 // What the writer answers of memory that is one byte too short, and that it leaves it alone.
-fn too_short(
-    heap: Global,
-    text: &mut String,
-    line: &Line,
-    length: usize,
-) -> Result<(), AllocError> {
-    let mut memory = vec![in heap; 7u8; length.saturating_sub(1)]?;
-    match write(line, memory.as_mut_slice()) {
+fn too_short(text: &mut String, line: &Line, length: usize) -> Result<(), AllocError> {
+    let mut memory = [7u8; 64];
+    match write(line, &mut memory[..length.saturating_sub(1).min(64)]) {
         Ok(_) => writeln!(text, "w 0 0")?,
         Err(refusal) => {
             let number = refusal.number();
@@ -240,7 +235,7 @@ pub(crate) fn spoilt(heap: Global, text: &mut String, line: &Line) -> anyhow::Re
     let mut memory = [0; 64];
     let bytes = written(line, &mut memory)?;
     writeln!(text, "{}", Bytes(bytes))?;
-    too_short(heap, text, line, bytes.len())?;
+    too_short(text, line, bytes.len())?;
     // Here and below the index is what is tried: an iterator would be no plainer, as it would carry it.
     for cut in 0..bytes.len() {
         answer_text(text, &read(&bytes[..cut]))?;

@@ -1,4 +1,4 @@
-// Drawn seasons: every call with what it answered.
+// Drawn seasons: every call with what it answered. As in a plan, choices are an `if` on a drawn number.
 use crate::plan::{KindName, Layer, Plan};
 use crate::readings::written;
 use crate::text::{Bytes, Fields};
@@ -30,6 +30,7 @@ impl Size {
         let length = self.room.saturating_add(self.old).min(4);
         let mut lines = Lines::new(&mut memory[..length as usize]);
         for _ in 0..self.old {
+            // more than the memory holds are left out
             let _ = lines.add(T::default());
         }
         lines

@@ -4,6 +4,8 @@ use std::fmt;
 
 pub const START: u64 = 0xcbf2_9ce4_8422_2325;
 
+// What the first program shows of lines and bytes has other words, so each has its own.
+
 // The fields of a line in the order of their bits, a space before each.
 #[derive(Drop)]
 pub(crate) struct Fields<'a>(pub(crate) &'a Line);

@@ -50,15 +50,15 @@ impl Kind for Halves {
     }
 
     fn class(&self, piece: &Piece) -> u8 {
-        if is_sized(piece) { 1 } else { 0 }
+        u8::from(is_sized(piece))
     }
 
     fn cost(&self, class: u8) -> u64 {
-        if class == 1 { 1 } else { 0 }
+        u64::from(class == 1)
     }
 
     fn standing(&self, class: u8) -> u64 {
-        if class == 1 { 1 } else { 0 }
+        u64::from(class == 1)
     }
 
     fn unit(&self) -> u64 {

@@ -65,19 +65,11 @@ impl Kind for Bars {
     fn cost(&self, class: u8) -> u64 {
         // two comparisons here and in `full`: with ranges a put over bars takes 112 instructions in place
         // of 104, which misses the bar of 106.8
-        if 1 <= class && class <= self.k.value {
-            1
-        } else {
-            0
-        }
+        u64::from(1 <= class && class <= self.k.value)
     }
 
     fn standing(&self, class: u8) -> u64 {
-        if (2..=self.k.value).contains(&class) {
-            1
-        } else {
-            0
-        }
+        u64::from((2..=self.k.value).contains(&class))
     }
 
     fn unit(&self) -> u64 {

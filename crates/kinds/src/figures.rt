@@ -9,11 +9,12 @@ use refusals::MakeRefusal;
 // The least common multiple of 1 to k - 1.
 const MULTIPLES: [u64; 11] = [1, 2, 6, 12, 60, 60, 420, 840, 2520, 2520, 27720];
 
-// What the ceiling is for each unit of capacity. A table of its own: of pairs it would be no plainer,
-// since L is proved what it is and p is what its list says.
+// What the ceiling is for each unit of capacity. One table of pairs would be no plainer: that the first
+// holds least common multiples is proved, and this one is what the rules list.
 const CEILING_FACTORS: [u64; 11] = [2, 7, 31, 82, 510, 610, 4980, 11380, 38400, 42660, 516120];
 
-// From 2 to 12: so many harmonic classes.
+// From 2 to 12: so many harmonic classes. One type for this and a capacity, with range and cause as its
+// parameters, would be no plainer than the two tests.
 #[derive(Clone, Copy, PartialEq, Eq, Debug)]
 pub struct ClassNumber {
     pub value: u8,

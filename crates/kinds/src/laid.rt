@@ -28,12 +28,11 @@ pub trait Laid: Kind {
 fn begins(refusal: Option<PieceRefusal>, level: u32) -> u32
     ensures { result ≡ told refusal level 0 }
 {
-    match refusal {
-        None => level,
-        Some(_) => 0,
-    }
+    refusal.map_or(level, |_| 0)
 }
 
+// The answer of strips reads as that of bars: a default in the trait would be no plainer, since it would
+// answer for kinds and layers that lay their pieces otherwise.
 impl Laid for Bars {
     ghost layout = { λ b. side_by_side (bars b.capacity.value b.k.value) };
 

@@ -16,8 +16,8 @@ use piece::Piece;
 use refusals::PieceRefusal;
 
 // A lawful kind of container. Of a piece that is not admitted, and of a class that it does not
-// have, a kind tells 0 or no. These calls answer for every piece and class, and an Option would be no
-// plainer: the law says 0, so each caller would turn None back into it.
+// have, a kind tells 0 or no. These calls answer for every piece and class, and the laws say 0 there: an
+// Option would be no plainer, as None would be a second word for it.
 pub trait Kind {
     // The kind code: 1 for bars, 2 for totes, 3 for strips. A number and no enum, since any crate may
     // add a kind, and no list here could name it.
@@ -28,7 +28,8 @@ pub trait Kind {
     // all that the kind tells, as one value
     ghost meaning: { Self → Meaning };
 
-    // Why the piece is not admitted, or None where it is.
+    // Why the piece is not admitted, or None where it is. The question is why, so a Result that is Ok of
+    // nothing would be no plainer.
     fn refusal(&self, piece: &Piece) -> Option<PieceRefusal>
         ensures { result ≡ (meaning self.now).refusal piece.now };
 

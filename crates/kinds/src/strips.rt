@@ -47,7 +47,7 @@ fn row_height_of(class: u8) -> u64
     }
 }
 
-// As in bars, two questions whose answers read alike stay apart.
+// As in bars, answers that read alike stay apart, those of bars and strips too.
 impl Kind for Strips {
     const CODE: u8 = 3;
 

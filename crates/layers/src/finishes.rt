@@ -62,11 +62,9 @@ impl<K: Kind> Finishes<K> {
     fn class_below(&self, class: u8) -> Option<u8>
         ensures { result ≡ class_below self.now.count (K.meaning self.now.below) class }
     {
-        if (1..=self.classes()).contains(&class) {
-            Some((class - 1) % self.below.classes() + 1)
-        } else {
-            None
-        }
+        (1..=self.classes())
+            .contains(&class)
+            .then(|| (class - 1) % self.below.classes() + 1)
     }
 }
 

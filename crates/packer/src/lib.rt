@@ -158,9 +158,7 @@ impl<K: Kind> Packer<K> {
         } else {
             Slot {
                 container: self.ledger.opened + 1,
-                count: 0,
-                level: 0,
-                weight: 0,
+                ..Slot::default()
             }
         }
     }
@@ -275,8 +273,8 @@ impl<K: Kind> Packer<K> {
         Ok(turn.placing)
     }
 
-    // What one open container in every class would cost, at standing costs. The range ends at + 1, since
-    // no lemma of std goes through a chain from `1..=n`.
+    // What one open container in every class would cost, at standing costs. Over `1..=n`, here and in
+    // `open_cost`, the proof of the sum did not close.
     pub fn standing_cost(&self) -> u64
         ensures { result ≡ standing_cost (K.meaning self.now.kind) }
     {

@@ -1,5 +1,6 @@
 // A list of lines over memory of the caller: a slice with a length beside it, and no Vec, since a
-// packer uses no heap. One kind of list serves every sort of line.
+// packer uses no heap. So a caller makes an array and a list over it, for places and for closings. One
+// kind of list serves every sort of line.
 ghost use Rattle.std.specs.Prelude.{◌≡◌, ◌≤◌, length};
 
 #[derive(Drop)]

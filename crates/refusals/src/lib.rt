@@ -8,8 +8,8 @@ ghost use Rattle.refusals.specs.declared.PutRefusal.TheVariants.{NotAdmitted};
 
 use thiserror::Error;
 
-// What all refusals have: the number of the cause, from 1 to 15. `From` for u8 would be no plainer: a
-// caller would have to know what the number is of.
+// What all refusals have: the number of the cause, from 1 to 15. A method, as `From` for u8 would be no
+// plainer: `refusal.number()` says which number it is.
 pub trait Refusal {
     // the number of each cause
     ghost number_of: { Self → ℕ };

@@ -21,7 +21,7 @@ mod tests {
     use kinds::totes::Totes;
     use layers::allowance::Allowance;
     use layers::finishes::Finishes;
-    use refusals::{MakeRefusal, PieceRefusal, Refusal};
+    use refusals::{PieceRefusal, Refusal};
     use std::test::Fail;
 
     fn piece(first: u32, second: u32, finish: u8) -> Piece {

@@ -84,6 +84,7 @@ impl Iterator for Reading<'_> {
     ghost remaining = { λ s. at_most (length s.rest.now) };
 
     fn next(&mut self) -> Option<Line> {
+        // `read(self.rest).ok()?` was tried, and the proof did not close
         let Ok((line, length)) = read(self.rest) else {
             return None;
         };
@@ -150,7 +151,7 @@ pub(crate) fn archive_lines(rt: &impl Print) -> io::Result<()> {
     spoilt_line(rt)
 }
 
-// Bytes that nobody wrote.
+// Bytes that nobody wrote. Their field of 0 is the cause, which the note says in words of its own.
 fn spoilt_line(rt: &impl Print) -> io::Result<()> {
     let bytes = [0u8, 1, 0, 0, 0, 0];
     println!(rt; "  Spoilt bytes")?;

@@ -24,7 +24,8 @@ fn piece(number: u32, first: u32, second: u32, finish: u8) -> Piece {
     }
 }
 
-// What prints takes the runtime beside what it shows: a struct of the two would be no plainer.
+// What prints takes the runtime beside what it shows, as `println!` does: a struct of the two would be
+// no plainer, as it would be made for one call.
 
 // The figures of a kind, and how far apart any plan and ours can lie.
 fn show_kind<K: Kind>(rt: &impl Print, title: &str, kind: &K) -> io::Result<()> {
