@@ -100,6 +100,7 @@ impl<K: Kind> Packer<K> {
         ensures admitted { IfOk result (AdmitsAs (K.meaning self.now.kind) piece.now) }
         ensures refused { IfErr result (λ r. (K.meaning self.now.kind).refusal piece.now ≡ Some r) }
     {
+        // the kind's word is why not, and no Result: `Kind::refusal` has the reason
         if let Some(refusal) = self.kind.refusal(piece) {
             return Err(refusal);
         }
