@@ -1,4 +1,4 @@
--- Theorems that the pages name and that no function's proof needs today. Each follows from what stands.
+-- Theorems that no function's proof needs today, and that pages named or whose files they named. Each follows from what stands.
 use Rattle.std.proofs.Common.{◌≡◌, ℕ, suc, ◌+◌, ◌-◌, ◌*◌, ◌/◌, ◌%◌, ◌^◌, ◌<◌, ◌≤◌, Bool, true, eqb, List, [], ◌∷◌, ◌++◌, map, length, get_or, take, drop, set, IfOk, Ok, Err, Result, sym, refl, ap, ◌∙◌, subst, append_assoc, pow-suc, add-one, arith, length-append, length-drop, pow_mono}
 use native.Mathlib.Nat.{pow-le-pow_right}
 use Rattle.std.specs.Prelude.{slice_index}

@@ -8,7 +8,8 @@ ghost use Rattle.archive.specs.Lines.{Field, place_fields, closing_fields, headi
 use crate::line::{ClosingLine, HeadingLine, Line, PlaceLine};
 
 // Lines of N fields, which bits of the map stand for, from bit 0 up. A line as numbers and back are
-// methods here: `From` and `TryFrom` would be no plainer, since values that fit make a line without fail.
+// methods here, beside the laws that tie them: as `From` and `TryFrom` they would be impls of their own, and
+// no plainer.
 pub(crate) trait Sort<const N: usize>: Into<Line> {
     ghost TAG: { ℕ };
 

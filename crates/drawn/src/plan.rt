@@ -27,7 +27,7 @@ pub struct Plan {
     pub layers: [Option<Layer>; 3],
     // the sum of the allowances
     pub allowances: u16,
-    // the topmost finishes, and 1 where there are none
+    // the topmost finishes, and 1 where there are none, as the heading line has them
     pub finishes: u8,
 }
 

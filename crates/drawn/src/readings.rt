@@ -39,8 +39,8 @@ pub const SAMPLES: [Line; 3] = [
     }),
 ];
 
-// What builds a text or bytes of its own takes the heap beside the text that it writes to: a text hands
-// its heap on, but a caller's name for it is plainer.
+// What builds bytes or a text of its own takes the heap beside the text that it writes to: a struct of
+// the two would be no plainer, as other functions take only one of them.
 
 // The bytes of a line, at the front of the memory.
 pub(crate) fn written<'a>(line: &Line, memory: &'a mut [u8]) -> Result<&'a [u8], WriteRefusal> {

@@ -64,7 +64,7 @@ impl Kind for Bars {
 
     fn cost(&self, class: u8) -> u64 {
         // two comparisons here and in `full`: with ranges a put over bars takes 112 instructions in place
-        // of 104, which misses the bar of 106.8
+        // of 104, which misses the 106.8 of the old form
         u64::from(1 <= class && class <= self.k.value)
     }
 

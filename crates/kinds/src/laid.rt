@@ -17,7 +17,7 @@ pub trait Laid: Kind {
     ghost layout: { Self → Layout };
 
     // Where the piece begins, from the left end, in a container that it finds at this level. A piece
-    // that is not admitted has place 0.
+    // that is not admitted has place 0: as in `Kind`, that is the answer.
     fn place(&self, level: u32, piece: &Piece) -> u32
         ensures { result ≡ layout self.now level piece.now };
 

@@ -26,7 +26,9 @@ impl<K: Drop> Allowance<K> {
 }
 
 impl<K> Allowance<K> {
-    // The piece that is passed down. The sum is made only of a measure in range, so it fits.
+    // The piece that is passed down. The sum is made only of a measure in range, so it fits; another
+    // becomes 0, which every kind refuses: an Option would be no plainer, as each question would have to
+    // make up that refusal.
     pub(crate) fn widen(&self, piece: &Piece) -> Piece
         ensures { result ≡ widened self.now.amount piece.now }
     {
@@ -39,8 +41,8 @@ impl<K> Allowance<K> {
     }
 }
 
-// All is asked below, of the piece passed down: the trait asks for each question by itself, and a closure that
-// names the question would be no plainer than the line it saves.
+// All is asked below, of the piece passed down. The trait asks for each question by itself: a function of
+// the question, as `self.ask(piece, |k, p| k.class(p))`, would be no plainer than the line it saves.
 impl<K: Kind> Kind for Allowance<K> {
     const CODE: u8 = K::CODE;
 

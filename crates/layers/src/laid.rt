@@ -1,4 +1,5 @@
-// A layer over a laid kind is laid: it asks below where the piece lies that it passes down.
+// A layer over a laid kind is laid: it asks below where the piece lies that it passes down. As in `Kind`,
+// 0 is the answer for a piece that is refused.
 ghost use Rattle.layers.specs.Laid.{allowance_layout, finishes_layout};
 ghost use Rattle.layers.specs.LaidLaws.{allowance_laid, finishes_laid};
 

@@ -1,4 +1,4 @@
--- Theorems that the pages name and that no function's proof needs today. Each follows from what stands.
+-- Theorems that no function's proof needs today, and that pages named or whose files they named. Each follows from what stands.
 use Rattle.std.proofs.Common.{◌≡◌, ℕ, suc, ◌+◌, ◌-◌, ◌≤◌, cond, List, [], ◌∷◌, ◌++◌, length, take, drop, set, get_or, sum_by, refl, ap, ◌∙◌, add-one, arith, length-set}
 use Rattle.std.proofs.lemmas.List.Sums.{sum_by_push}
 use Rattle.std.proofs.lemmas.Bool.Decides.{nat_tests}

@@ -142,7 +142,8 @@ impl<K: Kind> Packer<K> {
         self.ledger.bank.at(class)
     }
 
-    // The container that takes the piece, before it does.
+    // The container that takes the piece, before it does. A new one has its number already and count 0, as
+    // in the rules, so an Option would be no plainer.
     fn taking(&self, piece: &Piece, told: &Admission) -> Slot
         requires few { self.now.ledger.accepted < 100000 }
         requires told { AdmitsAs (K.meaning self.now.kind) piece.now told.now }
