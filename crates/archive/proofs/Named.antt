@@ -211,3 +211,7 @@ ended_map bs short = grind (arith, nat_tests)
 
 pub no_sort : (bs : List ℕ) (map t : ℕ) → 2 ≤ length bs → map ≡ map_of bs → map / map_bits ≡ t → 3 ≤ t → Err (NoField 0) ≡ decode bs
 no_sort bs map t long two q many = grind (arith, nat_tests)
+
+-- a value of eight bytes, read off a list that is equal to another
+pub at : (vs us : List ℕ) (n k : ℕ) → vs ≡ us → ((k : ℕ) → k < n → get_or vs k 0 < 2 ^ 64) → k < n → get_or us k 0 < 2 ^ 64
+at vs us n k e fit h = subst (λ x. get_or x k 0 < 2 ^ 64) e (fit k h)

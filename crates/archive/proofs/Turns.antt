@@ -99,7 +99,7 @@ module _ (t m : ℕ) (bs ws : List ℕ) (is : widths_by t ≡ ws) where
   pub parsed_fields : m < 2 ^ length ws → (r : Result (List ℕ × ℕ) ReadRefusal) → r ≡ fields [] ws m 2 (drop 2 bs) → of_sort t r ≡ parsed t m bs
   parsed_fields h r e = ap (of_sort t) e ∙ sym (ap by_widths is ∙ cond-false _ _ _ (lt-leb (2 ^ length ws) m h))
 
-front_read : (bs : List ℕ) (r : Result (Line × ℕ) ReadRefusal) → ((i : ℕ) → get_or bs i 0 < 256) → told r ≡ decode bs → IfOk r (λ p. Front bs p.0 p.1)
+pub front_read : (bs : List ℕ) (r : Result (Line × ℕ) ReadRefusal) → ((i : ℕ) → get_or bs i 0 < 256) → told r ≡ decode bs → IfOk r (λ p. Front bs p.0 p.1)
 front_read bs (Ok p) u e = read_written bs p.0 p.1 (bytes_are bs u) (sym e)
 front_read bs (Err x) u e = tt
 

@@ -11,6 +11,10 @@ use Rattle.kinds.specs.Kind.{Lawful, Admitted, ClassOf, Built, none_yet, one_mor
 use Rattle.kinds.specs.Told.{in_between, above}
 use Rattle.halves.specs.Halving.{sized, halves}
 
+-- from 0 ≡ 1 anything follows
+never : {A : Type 0} → ◌≡◌ {A = ℕ} 0 1 → A
+never z = absurd (omega arith)
+
 -- admission
 
 is_sized : (p : Piece) → Admitted halves p → sized p ≡ true
@@ -95,5 +99,5 @@ halves_lawful = record {
   unfit_weighs_enough = λ c ps p b a k f. heavy c ps (unfit c ps p a k f);
   allowed_admitted = λ ps h low a. All-weaker (λ p. sized p ≡ true) (Admitted halves) is_admitted ps a.0;
   allowed_weighs_at_most = λ ps h low a. omega (arith, a.1, weighs ps a.0);
-  full_after_first = λ p a z. let s = is_sized p a in absurd (omega (arith, rw s at z));
+  full_after_first = λ p a z. never (sym z ∙ rw (is_sized p a) refl);
 }

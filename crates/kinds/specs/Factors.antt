@@ -12,13 +12,20 @@ every test (suc n) = test n && every test n
 every_decides : (test : ℕ → Bool) (n : ℕ) → Decides (every test n) ((i : ℕ) → i < n → test i ≡ true)
 every_decides test = Decides-below_and test (λ i. test i ≡ true) (every test) (λ i. (λ e. e, λ e. e)) refl (λ n. refl)
 
+-- its two directions
+every_below : (test : ℕ → Bool) (n : ℕ) → every test n ≡ true → (i : ℕ) → i < n → test i ≡ true
+every_below test n = (every_decides test n).0
+
+every_from : (test : ℕ → Bool) (n : ℕ) → ((i : ℕ) → i < n → test i ≡ true) → every test n ≡ true
+every_from test n = (every_decides test n).1
+
 -- a test of each class number, and of each class below the last
 module _ (test : ℕ → Bool) where
   for_each : every (λ n. leb n 1 || test n) 13 ≡ true → (k : ℕ) → 2 ≤ k → k ≤ 12 → test k ≡ true
-  for_each e k s l = elim (or_cases (leb k 1) (test k) ((every_decides (λ n. leb n 1 || test n) 13).0 e k (omega arith))) [ inl z ↦ absurd (omega (arith, leb-true k 1 z)) | inr t ↦ t ]
+  for_each e k s l = elim (or_cases (leb k 1) (test k) (every_below (λ n. leb n 1 || test n) 13 e k (omega arith))) [ inl z ↦ absurd (omega (arith, leb-true k 1 z)) | inr t ↦ t ]
 
   below_each : (k : ℕ) → every (λ j. eqb j 0 || test j) k ≡ true → (j : ℕ) → 1 ≤ j → j < k → test j ≡ true
-  below_each k e j s l = elim (or_cases (eqb j 0) (test j) ((every_decides (λ j. eqb j 0 || test j) k).0 e j l)) [ inl z ↦ absurd (omega (arith, eqb-true j 0 z)) | inr t ↦ t ]
+  below_each k e j s l = elim (or_cases (eqb j 0) (test j) (every_below (λ j. eqb j 0 || test j) k e j l)) [ inl z ↦ absurd (omega (arith, eqb-true j 0 z)) | inr t ↦ t ]
 
 le_each : (f g : ℕ → ℕ) → every (λ n. leb n 1 || leb (f n) (g n)) 13 ≡ true → (k : ℕ) → 2 ≤ k → k ≤ 12 → f k ≤ g k
 le_each f g e k s l = leb-true (f k) (g k) (for_each (λ n. leb (f n) (g n)) e k s l)
@@ -32,7 +39,7 @@ common_each k n e j s l = eqb-true (n % j) 0 (below_each (λ j. eqb (n % j) 0) k
 
 common_from : (k n : ℕ) → ((j : ℕ) → 1 ≤ j → j < k → n % j ≡ 0) → common k n ≡ true
 common_from k n h =
-    (every_decides _ k).1 (λ j l. elim (cases_lt 0 j) [ inl s ↦ or_right (eqb j 0) _ (eq-eqb (n % j) 0 (h j s l)) | inr z ↦ or_left (eqb j 0) _ (eq-eqb j 0 (omega arith)) ])
+    every_from _ k (λ j l. elim (cases_lt 0 j) [ inl s ↦ or_right (eqb j 0) _ (eq-eqb (n % j) 0 (h j s l)) | inr z ↦ or_left (eqb j 0) _ (eq-eqb j 0 (omega arith)) ])
 
 -- what the class number k asks of L, u and p
 pub record Figures (k L u p : ℕ) : Type 0 where

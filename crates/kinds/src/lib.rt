@@ -25,6 +25,13 @@ pub trait Kind {
 
     ghost CODE: { ℕ };
 
+    // The kind code as a call, for whoever has the kind as a parameter.
+    fn kind_code() -> u8
+        ensures { result ≡ CODE }
+    {
+        Self::CODE
+    }
+
     // all that the kind tells, as one value
     ghost meaning: { Self → Meaning };
 

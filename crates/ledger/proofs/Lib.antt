@@ -6,3 +6,4 @@ pub mod Step
 pub mod Seasons
 pub mod Bounds
 pub mod Stretches
+pub mod Named

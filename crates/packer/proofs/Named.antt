@@ -1,33 +1,24 @@
--- Theorems that no function's proof needs today, and that pages named or whose files they named. Each follows from what stands.
-use Rattle.std.proofs.Common.{◌≡◌, ℕ, suc, ◌+◌, ◌-◌, ◌≤◌, cond, List, [], ◌∷◌, ◌++◌, length, take, drop, set, get_or, sum_by, refl, ap, ◌∙◌, add-one, arith, length-set}
-use Rattle.std.proofs.lemmas.List.Sums.{sum_by_push}
-use Rattle.std.proofs.lemmas.Bool.Decides.{nat_tests}
+-- Theorems that no function's proof needs today: those that pages named or whose files they named, and, last, those of the chain
+-- that the sum of the open costs was for a while. Each follows from what stands.
+use Rattle.std.specs.Prelude.{if◌then◌else◌, nat_eq, slice_index_or}
+use Rattle.std.proofs.Common.{◌≡◌, ℕ, ◌+◌, ◌-◌, ◌≤◌, Bool, true, false, not, cond, List, [], ◌∷◌, ◌++◌, length, take, drop, set, sum_by, sym, refl, ap, ◌∙◌, arith, length-set}
+use Rattle.std.specs.List.{range_with_len, filter}
+use Rattle.std.proofs.lemmas.List.Sums.{sum_by-cons}
+use Rattle.std.proofs.lemmas.List.Filters.{length-filter_both}
+use Rattle.std.proofs.lemmas.List.FromFn.{length-range_with_len}
 use Rattle.std.proofs.lemmas.Grind.{common_steps}
-use Rattle.kinds.specs.Kind.{Meaning, Lawful}
+use Rattle.kinds.specs.Kind.{Meaning, Lawful, between}
+use Rattle.kinds.specs.Told.{is_between}
 use Rattle.ledger.specs.declared.Ledger.{Ledger}
 use Rattle.ledger.specs.declared.Report.{Report}
-use Rattle.ledger.specs.Rules.{stands, nothing, upto}
+use Rattle.ledger.specs.Rules.{nothing, open_cost}
 use Rattle.ledger.specs.Rules.{report as told_by}
 use Rattle.ledger.specs.Season.{LeastFloor}
 use Rattle.ledger.proofs.Floors.{floor_covers, floor_least}
+use Rattle.ledger.proofs.Uptos.{sum_same}
 use Rattle.ledger.proofs.Sound.{open_cost_in}
+use Rattle.packer.proofs.Sums.{sum_range}
 use Rattle.packer.specs.Lists.{written}
-
--- a sum over the classes, one class more
-pub sum_next : (f : ℕ → ℕ) (i : ℕ) → sum_by f (upto (i + 1)) ≡ sum_by f (upto i) + f (i + 1)
-sum_next f i = rw add-one (sum_by_push f (upto i) (suc i))
-
--- one class more
-pub cost_next : (m : Meaning) (s : Ledger) (i : ℕ) → sum_by (open_cost_in m s) (upto (i + 1)) ≡ sum_by (open_cost_in m s) (upto i) + cond (stands (get_or s.bank.slots i nothing)) (m.cost (i + 1)) 0
-cost_next m s i =
-    sum_next (open_cost_in m s) i
-    ∙ (let e : i + 1 - 1 ≡ i = omega arith in ap (λ n. sum_by (open_cost_in m s) (upto i) + cond (stands (get_or s.bank.slots n nothing)) (m.cost (i + 1)) 0) e)
-
-pub next_yes : (m : Meaning) (s : Ledger) (i : ℕ) → ((get_or s.bank.slots i nothing).count ≡ 0 → ⊥) → sum_by (open_cost_in m s) (upto (i + 1)) ≡ sum_by (open_cost_in m s) (upto i) + m.cost (i + 1)
-next_yes m s i ne = grind (arith, nat_tests, cost_next m s i)
-
-pub next_no : (m : Meaning) (s : Ledger) (i : ℕ) → (get_or s.bank.slots i nothing).count ≡ 0 → sum_by (open_cost_in m s) (upto (i + 1)) ≡ sum_by (open_cost_in m s) (upto i)
-next_no m s i e = grind (arith, nat_tests, cost_next m s i)
 
 -- a report's floor is the least that covers its weight
 module _ (m : Meaning) (law : Lawful m) (s : Ledger) (r : Report) (is : r ≡ told_by m s) where
@@ -55,3 +46,26 @@ module _ {T : Type 0} (memory memory' : List T) (used used' : ℕ) (ls : List T)
 
   pub rest_after : drop used' memory' ≡ drop used' memory
   rest_after = rw (same, long) (drop_written memory used ls)
+
+-- a container stands open in the class, as the code asks
+abbrev pub is_open : Ledger → ℕ → Bool
+is_open s c = not (nat_eq (if between 1 104 c then slice_index_or s.bank.slots (c - 1) nothing else nothing).count 0)
+
+sum_kept : (f : ℕ → ℕ) (b : Bool) (x : ℕ) (ys : List ℕ) → sum_by f (cond b (x ∷ ys) ys) ≡ cond b (f x) 0 + sum_by f ys
+sum_kept f true x ys = sum_by-cons f x ys
+sum_kept f false x ys = omega arith
+
+sum_filter : (p : ℕ → Bool) (f : ℕ → ℕ) (xs : List ℕ) → sum_by f (filter p xs) ≡ sum_by (λ x. cond (p x) (f x) 0) xs
+sum_filter p f [] = refl
+sum_filter p f (x ∷ xs) =
+    let g : ℕ → ℕ = λ y. cond (p y) (f y) 0 in
+    sum_kept f (p x) x (filter p xs) ∙ ap (λ n. g x + n) (sum_filter p f xs) ∙ sym (sum_by-cons g x xs)
+
+pub open_same : (m : Meaning) (s : Ledger) → sum_by m.cost (filter (is_open s) (range_with_len 1 104)) ≡ open_cost m s
+open_same m s =
+    sum_filter (is_open s) m.cost (range_with_len 1 104)
+    ∙ sum_range (λ c. cond (is_open s c) (m.cost c) 0) 104
+    ∙ sum_same (λ c. cond (is_open s c) (m.cost c) 0) (open_cost_in m s) 104 (λ c low high. rw (is_between 1 104 c low high) refl)
+
+pub few_open : (s : Ledger) → length (filter (is_open s) (range_with_len 1 104)) ≤ 104
+few_open s = omega (arith, length-filter_both (is_open s) (λ c. not (is_open s c)) (λ c. refl) (range_with_len 1 104), length-range_with_len 1 104)

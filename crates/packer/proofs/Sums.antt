@@ -1,16 +1,16 @@
 -- What is added up over the classes. Assumes nothing.
-use Rattle.std.specs.Prelude.{if◌then◌else◌, nat_eq, slice_index_or}
-use Rattle.std.proofs.Common.{◌≡◌, ℕ, zero, suc, ◌+◌, ◌-◌, ◌^◌, ◌<◌, ◌≤◌, Bool, true, false, cond, not, ◌⊎◌, List, [], ◌∷◌, ◌++◌, length, sum_by, sym, refl, ap, ◌∙◌, inl, inr, mul-le-mul_right, one-mul, arith}
-use Rattle.std.specs.List.{range_with_len, filter}
-use Rattle.std.proofs.lemmas.List.Sums.{sum_by-le, sum_by-cons}
-use Rattle.std.proofs.lemmas.List.Filters.{length-filter_both}
+use Rattle.std.specs.Prelude.{if◌then◌else◌, slice_index_or}
+use Rattle.std.proofs.Common.{◌≡◌, ℕ, zero, suc, ◌+◌, ◌-◌, ◌^◌, ◌<◌, ◌≤◌, cond, ◌⊎◌, List, [], ◌∷◌, ◌++◌, length, get_or, sum_by, sym, refl, ap, ◌∙◌, inl, inr, add-one, mul-le-mul_right, one-mul, arith}
+use Rattle.std.specs.List.{range_with_len}
+use Rattle.std.proofs.lemmas.List.Sums.{sum_by-le, sum_by_push}
 use Rattle.std.proofs.lemmas.List.FromFn.{length-range_with_len}
-use Rattle.std.proofs.lemmas.Bool.{cases_lt}
+use Rattle.std.proofs.lemmas.Bool.{cases_lt, cases_Bool}
+use Rattle.std.proofs.lemmas.Bool.Decides.{nat_tests}
 use Rattle.kinds.specs.Kind.{Meaning, Lawful, ClassOf, between}
 use Rattle.kinds.specs.Told.{is_between}
 use Rattle.ledger.specs.declared.Ledger.{Ledger}
-use Rattle.ledger.specs.Rules.{upto, nothing, open_cost}
-use Rattle.ledger.proofs.Uptos.{sum_same}
+use Rattle.ledger.specs.Rules.{upto, nothing, stands, open_in, open_cost}
+use Rattle.ledger.proofs.Uptos.{sum_past}
 use Rattle.ledger.proofs.Sound.{open_cost_in}
 
 range_more : (a n : ℕ) → range_with_len a (suc n) ≡ range_with_len a n ++ ((a + n) ∷ [])
@@ -51,28 +51,37 @@ any_standing m law c =
       | inr n ↦ omega (arith, (law.no_class_tells_nothing c n).1)
     ]
 
--- a container stands open in the class, as the code asks
-abbrev pub is_open : Ledger → ℕ → Bool
-is_open s c = not (nat_eq (if between 1 104 c then slice_index_or s.bank.slots (c - 1) nothing else nothing).count 0)
+-- a sum over the classes, one class more
+pub sum_next : (f : ℕ → ℕ) (i : ℕ) → sum_by f (upto (i + 1)) ≡ sum_by f (upto i) + f (i + 1)
+sum_next f i = rw add-one (sum_by_push f (upto i) (suc i))
 
-sum_kept : (f : ℕ → ℕ) (b : Bool) (x : ℕ) (ys : List ℕ) → sum_by f (cond b (x ∷ ys) ys) ≡ cond b (f x) 0 + sum_by f ys
-sum_kept f true x ys = sum_by-cons f x ys
-sum_kept f false x ys = omega arith
+-- one class more
+pub cost_next : (m : Meaning) (s : Ledger) (i : ℕ) → sum_by (open_cost_in m s) (upto (i + 1)) ≡ sum_by (open_cost_in m s) (upto i) + cond (stands (get_or s.bank.slots i nothing)) (m.cost (i + 1)) 0
+cost_next m s i =
+    sum_next (open_cost_in m s) i
+    ∙ (let e : i + 1 - 1 ≡ i = omega arith in ap (λ n. sum_by (open_cost_in m s) (upto i) + cond (stands (get_or s.bank.slots n nothing)) (m.cost (i + 1)) 0) e)
 
-sum_filter : (p : ℕ → Bool) (f : ℕ → ℕ) (xs : List ℕ) → sum_by f (filter p xs) ≡ sum_by (λ x. cond (p x) (f x) 0) xs
-sum_filter p f [] = refl
-sum_filter p f (x ∷ xs) =
-    let g : ℕ → ℕ = λ y. cond (p y) (f y) 0 in
-    sum_kept f (p x) x (filter p xs) ∙ ap (λ n. g x + n) (sum_filter p f xs) ∙ sym (sum_by-cons g x xs)
+pub next_yes : (m : Meaning) (s : Ledger) (i : ℕ) → ((get_or s.bank.slots i nothing).count ≡ 0 → ⊥) → sum_by (open_cost_in m s) (upto (i + 1)) ≡ sum_by (open_cost_in m s) (upto i) + m.cost (i + 1)
+next_yes m s i ne = grind (arith, nat_tests, cost_next m s i)
 
-pub open_same : (m : Meaning) (s : Ledger) → sum_by m.cost (filter (is_open s) (range_with_len 1 104)) ≡ open_cost m s
-open_same m s =
-    sum_filter (is_open s) m.cost (range_with_len 1 104)
-    ∙ sum_range (λ c. cond (is_open s c) (m.cost c) 0) 104
-    ∙ sum_same (λ c. cond (is_open s c) (m.cost c) 0) (open_cost_in m s) 104 (λ c low high. rw (is_between 1 104 c low high) refl)
+pub next_no : (m : Meaning) (s : Ledger) (i : ℕ) → (get_or s.bank.slots i nothing).count ≡ 0 → sum_by (open_cost_in m s) (upto (i + 1)) ≡ sum_by (open_cost_in m s) (upto i)
+next_no m s i e = grind (arith, nat_tests, cost_next m s i)
 
-pub few_open : (s : Ledger) → length (filter (is_open s) (range_with_len 1 104)) ≤ 104
-few_open s = omega (arith, length-filter_both (is_open s) (λ c. not (is_open s c)) (λ c. refl) (range_with_len 1 104), length-range_with_len 1 104)
+-- what the bank tells of a class is its slot
+pub slot_at : (s : Ledger) (i : ℕ) → i + 1 ≤ 104 → (if between 1 104 (i + 1) then slice_index_or s.bank.slots (i + 1 - 1) nothing else nothing) ≡ get_or s.bank.slots i nothing
+slot_at s i h =
+    let e : i + 1 - 1 ≡ i = omega arith in
+    rw (is_between 1 104 (i + 1) (omega arith) h) (ap (λ k. get_or s.bank.slots k nothing) e)
+
+-- past the kind's classes nothing costs
+nothing_past : (m : Meaning) → Lawful m → (s : Ledger) → (c : ℕ) → m.classes < c → open_cost_in m s c ≡ 0
+nothing_past m law s c past =
+    let none : m.cost c ≡ 0 = (law.no_class_tells_nothing c (λ k. omega (arith, k.1))).0 in
+    elim (cases_Bool (stands (open_in s c))) [ inl e ↦ rw e none | inr e ↦ rw e refl ]
+
+-- so the kind's classes are enough
+pub open_upto : (m : Meaning) → Lawful m → (s : Ledger) → sum_by (open_cost_in m s) (upto m.classes) ≡ open_cost m s
+open_upto m law s = sym (sum_past (open_cost_in m s) m.classes 104 law.few_classes (nothing_past m law s))
 
 pub few_classes : (m : Meaning) → Lawful m → length (range_with_len 1 m.classes) ≤ 104
 few_classes m law = rw (length-range_with_len 1 m.classes) law.few_classes

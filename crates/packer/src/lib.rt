@@ -224,10 +224,14 @@ impl<K: Kind> Packer<K> {
         if piece.number == 0 {
             return Err(PutRefusal::NoNumber);
         }
-        let told = self.admission(piece)?;
+        // A full season asks no more of the kind than why not, since the rest would be for nothing.
         if self.ledger.accepted >= 100_000 {
-            return Err(PutRefusal::SeasonFull);
+            return Err(match self.kind.refusal(piece) {
+                Some(refusal) => refusal.into(),
+                None => PutRefusal::SeasonFull,
+            });
         }
+        let told = self.admission(piece)?;
         let turn = self.turn(piece, &told);
         let closes = usize::from(turn.placing.before.is_some())
             + usize::from(turn.placing.after.is_some());
@@ -275,8 +279,8 @@ impl<K: Kind> Packer<K> {
         Ok(turn.placing)
     }
 
-    // What one open container in every class would cost, at standing costs. Over `1..=n`, here and in
-    // `open_cost`, the proof of the sum did not close.
+    // What one open container in every class would cost, at standing costs. Over `1..=n` the proof of the
+    // sum did not close.
     pub fn standing_cost(&self) -> u64
         ensures { result ≡ standing_cost (K.meaning self.now.kind) }
     {
@@ -284,14 +288,18 @@ impl<K: Kind> Packer<K> {
         (1..last + 1).map(|class| self.kind.standing(class)).sum()
     }
 
-    // What the containers now open cost.
+    // What the containers now open cost. The kind's own classes are enough: none past them has a cost. A
+    // loop, since chains over them took up to twice the instructions where these are many.
     fn open_cost(&self) -> u64
         ensures { result ≡ open_cost (K.meaning self.now.kind) self.now.ledger }
     {
-        (1..105u8)
-            .filter(|class| self.ledger.bank.at(*class).count != 0)
-            .map(|class| self.cost(class))
-            .sum()
+        let mut sum: u64 = 0;
+        for i in 0..self.kind.classes() {
+            if self.ledger.bank.at(i + 1).count != 0 {
+                sum += self.cost(i + 1);
+            }
+        }
+        sum
     }
 
     // What the season came to so far. `season` is the promise: whatever calls led here, the accepted

@@ -1,31 +1,35 @@
-use Rattle.std.proofs.Common.{ℕ, List, ◌∙◌, arith, rules, tests}
-use Rattle.std.specs.List.{range_with_len, filter}
-use Rattle.std.proofs.lemmas.Iterator.{YieldsList-from_range, YieldsList-from_map}
-use Rattle.std.proofs.lemmas.Iterator.Consumers.{YieldsList-at, YieldsList-from_filter, sum_by_from_yields_List, fits_by_from_yields_list}
-use Rattle.kinds.specs.Kind.{Meaning}
-use Rattle.packer.proofs.Sums.{sum_fits, any_cost, is_open, open_same, few_open}
+use Rattle.std.proofs.Common.{◌≡◌, ◌+◌, ◌≤◌, sum_by, get_or, sym, ap, ◌∙◌, arith}
+use Rattle.kinds.specs.Kind.{Lawful}
+use Rattle.ledger.specs.declared.Slot.{Slot}
+use Rattle.ledger.specs.Rules.{upto, nothing}
+use Rattle.ledger.proofs.Sound.{open_cost_in}
+use Rattle.packer.proofs.Sums.{next_yes, next_no, slot_at, open_upto}
 use Rattle.packer.proofs.Packer.open_cost.Goals as goal
+use Rattle.packer.proofs.Packer.open_cost.Goals.{then-at-ne0, else-at-ne0}
 
-pub sum-requires-clause-fits : goal.sum-requires-clause-fits
-sum-requires-clause-fits g c =
+pub loop-i-preserved : goal.loop-i-preserved
+loop-i-preserved g c =
     let k = c.args.self.now.kind in
+    let m = g.K.Kind.meaning k in
+    let law : Lawful m = g.met.K.Kind.lawful k in
     let s = c.args.self.now.ledger in
-    let m : Meaning = g.K.Kind.meaning k in
-    let classes : List ℕ = filter (is_open s) (range_with_len 1 104) in
-    fits_by_from_yields_list m.cost classes c.map.result _
-    (YieldsList-from_map _ m.cost
-    (YieldsList-at c.map.ensures.source (YieldsList-from_filter _ (is_open s) (YieldsList-from_range 1 105 104 (cc) (omega arith)) c.filter.ensures.closure (λ x b q k. search (rules, tests))))
-    c.map.ensures.closure (λ x r q k. search rules))
-    (sum_fits m.cost classes (few_open s) (any_cost m (g.met.K.Kind.lawful k)))
+    let i = c.loop-i.i in
+    let low : i + 1 ≤ 104 = omega (arith, c.loop-i-test.true, c.classes-i-end.ensures, law.few_classes) in
+    let found : c.at.result ≡ get_or s.bank.slots i nothing = c.at.ensures ∙ slot_at s i low in
+    let count : c.at.result.count ≡ (get_or s.bank.slots i nothing).count = ap (λ (t : Slot). t.count) found in
+    elim c.if-at-ne0.branch [
+      | then-at-ne0 w ↦ (
+        omega (arith, w.sum-is, w.cost-sum.ensures.value, c.loop-i.invariant.0, next_yes m s i (λ z. w.if-at-ne0.true (count ∙ z))),
+        omega (arith, w.sum-is, w.cost-sum.ensures.high, c.loop-i.invariant.1),
+      )
+      | else-at-ne0 w ↦
+          (omega (arith, w.sum-is, c.loop-i.invariant.0, next_no m s i (sym count ∙ w.if-at-ne0.false)), omega (arith, w.sum-is, c.loop-i.invariant.1))
+    ]
 
 pub returns : goal.returns
 returns g c =
     let k = c.args.self.now.kind in
+    let m = g.K.Kind.meaning k in
     let s = c.args.self.now.ledger in
-    let m : Meaning = g.K.Kind.meaning k in
-    let classes : List ℕ = filter (is_open s) (range_with_len 1 104) in
-    sum_by_from_yields_List m.cost classes c.map.result _ c.sum.ensures.ran
-    (YieldsList-from_map _ m.cost
-    (YieldsList-at c.map.ensures.source (YieldsList-from_filter _ (is_open s) (YieldsList-from_range 1 105 104 (cc) (omega arith)) c.filter.ensures.closure (λ x b q k. search (rules, tests))))
-    c.map.ensures.closure (λ x r q k. search rules))
-    ∙ open_same m s
+    let e : c.loop-i.i ≡ m.classes = omega (arith, c.loop-i-test.false, c.loop-i.auto.i-end, c.classes-i-end.ensures) in
+    c.loop-i.invariant.0 ∙ ap (λ n. sum_by (open_cost_in m s) (upto n)) e ∙ open_upto m (g.met.K.Kind.lawful k) s
