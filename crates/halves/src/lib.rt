@@ -205,6 +205,7 @@ mod tests {
         assert_eq!(rt; <Finishes<Allowance<Halves>> as Kind>::CODE, 9);
         assert_eq!(rt; <Allowance<Finishes<Bars>> as Kind>::CODE, 1);
         assert_eq!(rt; <Finishes<Finishes<Strips>> as Kind>::CODE, 3);
+        assert_eq!(rt; <Finishes<Allowance<Halves>> as Kind>::kind_code(), 9);
     }
 
     // One half, then a whole: it does not fit, and fills its own container, so two close at once.

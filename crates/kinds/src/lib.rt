@@ -25,7 +25,7 @@ pub trait Kind {
 
     ghost CODE: { ℕ };
 
-    // The kind code as a call, for whoever has the kind as a parameter.
+    // The same as a call.
     fn kind_code() -> u8
         ensures { result ≡ CODE }
     {

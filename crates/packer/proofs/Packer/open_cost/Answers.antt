@@ -14,8 +14,8 @@ loop-i-preserved g c =
     let law : Lawful m = g.met.K.Kind.lawful k in
     let s = c.args.self.now.ledger in
     let i = c.loop-i.i in
-    let low : i + 1 ≤ 104 = omega (arith, c.loop-i-test.true, c.classes-i-end.ensures, law.few_classes) in
-    let found : c.at.result ≡ get_or s.bank.slots i nothing = c.at.ensures ∙ slot_at s i low in
+    let high : i + 1 ≤ 104 = omega (arith, c.loop-i-test.true, c.classes-i-end.ensures, law.few_classes) in
+    let found : c.at.result ≡ get_or s.bank.slots i nothing = c.at.ensures ∙ slot_at s i high in
     let count : c.at.result.count ≡ (get_or s.bank.slots i nothing).count = ap (λ (t : Slot). t.count) found in
     elim c.if-at-ne0.branch [
       | then-at-ne0 w ↦ (
